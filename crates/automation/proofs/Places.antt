@@ -51,7 +51,7 @@ module _ (q : ℕ) (levels : List LevelView) (node : ℕ) (y : LevelView) (withi
       by_place (inr same) =
           subst (HasRoom q) (sym (own_level _ (ap (λ k. (slice_index_or params k p).id.node.0) same ∙ ap (λ (x : Param). x.id.node.0) (get_or_default params i p d l) ∙ sym here))) own
 
--- what follows from three results of a call that succeeds
-pub all_ok : {E A B C D : Type 0} (r : Result (Unit {0}) E) → OnOk r A → OnOk r B → OnOk r C → (A → B → C → D) → OnOk r D
-all_ok (Ok u) a b c f = f a b c
-all_ok (Err e) a b c f = tt
+-- what follows from four results of a call that succeeds
+pub all_ok : {E A B C D F : Type 0} (r : Result (Unit {0}) E) → OnOk r A → OnOk r B → OnOk r C → OnOk r D → (A → B → C → D → F) → OnOk r F
+all_ok (Ok u) a b c d f = f a b c d
+all_ok (Err e) a b c d f = tt

@@ -1,11 +1,12 @@
 -- Parameters that run: some of all, in order.
-use Rattle.std.proofs.Common.{ℕ, zero, suc, ◌≡◌, ◌+◌, ◌≤◌, ◌<◌, length, List, [], ◌∷◌, ◌++◌, map, take, drop, slice_index_or, slice_set, inl, inr, sym, ◌∙◌, ap, arith, subst}
+use Rattle.std.proofs.Common.{ℕ, zero, suc, ◌≡◌, ◌+◌, ◌≤◌, ◌<◌, length, List, [], ◌∷◌, ◌++◌, map, take, drop, slice_index_or, slice_set, inl, inr, refl, sym, ◌∙◌, ap, arith, subst}
 use Rattle.std.specs.Prelude.{◌⊎◌}
 use Rattle.std.specs.List.{sum_by}
-use Rattle.std.proofs.lemmas.List.{append_assoc, append-nil, drop_all, drop_more, get_or-map, get_or-set_other, length-map}
+use Rattle.std.proofs.lemmas.List.{append_assoc, append-nil, drop-map, drop_all, drop_more, get_or-map, get_or-set_other, length-map}
 use Rattle.std.proofs.lemmas.Grind.{get_or-set_at}
 use Rattle.std.proofs.lemmas.List.Sums.{sum-map, sum_by-cons, sum_by_more, sum_by-take-le}
 use Rattle.law_base.specs.Members.{IsIn}
+use Rattle.law_base.proofs.Members.{IsIn-append_first, IsIn-append_second}
 use Rattle.automation.specs.Ready.{AreRunning, RiseWithin, RunningView, param_of}
 use Rattle.automation.proofs.Places.{before_or_here, in_list}
 
@@ -25,6 +26,22 @@ pub rise_below : (low end : ℕ) (is : List ℕ) → RiseWithin low end is → (
 rise_below low end [] r i is = absurd is
 rise_below low end (j ∷ js) r i (inl same) = let below = r.1 in omega (arith, below, same)
 rise_below low end (j ∷ js) r i (inr later) = rise_below (j + 1) end js r.2 i later
+
+-- none of them is below the first
+rise_from : (low end : ℕ) (is : List ℕ) → RiseWithin low end is → (i : ℕ) → IsIn i is → low ≤ i
+rise_from low end [] r i is = absurd is
+rise_from low end (j ∷ js) r i (inl same) = let from = r.0 in omega (arith, from, same)
+rise_from low end (j ∷ js) r i (inr later) = let from = rise_from (j + 1) end js r.2 i later in let first = r.0 in omega (arith, from, first)
+
+-- those before one are below it, and those behind it above
+rise_before : (low end : ℕ) (is : List ℕ) (i : ℕ) (js : List ℕ) → RiseWithin low end (is ++ i ∷ js) → (n : ℕ) → IsIn n is → n < i
+rise_before low end [] i js up n there = absurd there
+rise_before low end (k ∷ is) i js up n (inl same) = let from = rise_from (k + 1) end (is ++ i ∷ js) up.2 i (IsIn-append_second is (i ∷ js) i (inl refl)) in omega (arith, from, same)
+rise_before low end (k ∷ is) i js up n (inr later) = rise_before (k + 1) end is i js up.2 n later
+
+rise_behind : (low end : ℕ) (is : List ℕ) (i : ℕ) (js : List ℕ) → RiseWithin low end (is ++ i ∷ js) → (n : ℕ) → IsIn n js → i < n
+rise_behind low end [] i js up n there = let from = rise_from (i + 1) end js up.2 n there in omega (arith, from)
+rise_behind low end (k ∷ is) i js up n there = rise_behind (k + 1) end is i js up.2 n there
 
 -- they still rise without one
 pub rise_without : (low end : ℕ) (is : List ℕ) (i : ℕ) (js : List ℕ) → RiseWithin low end (is ++ i ∷ js) → RiseWithin low end (is ++ js)
@@ -46,6 +63,40 @@ module _ (end k : ℕ) (done all : List ℕ) where
   -- none is left
   pub rise_done : length all ≤ k → RiseWithin 0 end (done ++ drop k all) → RiseWithin 0 end done
   rise_done past up = subst (RiseWithin 0 end) (ap (λ (ns : List ℕ). done ++ ns) (drop_all k all past) ∙ append-nil done) up
+
+-- ---- those beside one
+
+IsIn-map : {X Y : Type 0} (f : X → Y) (xs : List X) (x : X) → IsIn x xs → IsIn (f x) (map f xs)
+IsIn-map f [] x there = absurd there
+IsIn-map f (y ∷ ys) x (inl same) = inl (ap f same)
+IsIn-map f (y ∷ ys) x (inr later) = inr (IsIn-map f ys x later)
+
+-- an item stands first of those from its place on
+pub first_left : {X : Type 0} (xs : List X) (k : ℕ) (d : X) → k < length xs → IsIn (slice_index_or xs k d) (drop k xs)
+first_left xs k d l = subst (λ (ys : List _). IsIn (slice_index_or xs k d) ys) (sym (drop_more xs k d l)) (inl refl)
+
+-- and those behind it are some of them
+pub also_left : {X : Type 0} (xs : List X) (k : ℕ) (x : X) → k < length xs → IsIn x (drop (k + 1) xs) → IsIn x (drop k xs)
+also_left xs k x l there = subst (λ (ys : List _). IsIn x ys) (sym (drop_more xs k x l)) (inr there)
+
+module _ (end : ℕ) (front old : List RunningView) (k place : ℕ) (low : k < length (map param_of old)) (is : slice_index_or (map param_of old) k 0 ≡ place) (rise : RiseWithin 0 end (map param_of front ++ drop k (map param_of old))) where
+  parted : RiseWithin 0 end (map param_of front ++ place ∷ drop (k + 1) (map param_of old))
+  parted = subst (λ (ns : List ℕ). RiseWithin 0 end (map param_of front ++ ns)) (drop_more (map param_of old) k 0 low ∙ ap (λ i. i ∷ drop (k + 1) (map param_of old)) is) rise
+
+  left : (r : RunningView) → IsIn r (drop (k + 1) old) → IsIn r.param (drop (k + 1) (map param_of old))
+  left r there = subst (λ (ns : List ℕ). IsIn r.param ns) (sym (drop-map param_of (k + 1) old)) (IsIn-map param_of (drop (k + 1) old) r there)
+
+  pub front_low : (r : RunningView) → IsIn r front → r.param < end
+  front_low r there = rise_below 0 end _ parted r.param (IsIn-append_first (map param_of front) _ r.param (IsIn-map param_of front r there))
+
+  pub front_apart : (r : RunningView) → IsIn r front → r.param ≡ place → ⊥
+  front_apart r there same = let l = rise_before 0 end (map param_of front) place _ parted r.param (IsIn-map param_of front r there) in omega (arith, l, same)
+
+  pub left_low : (r : RunningView) → IsIn r (drop (k + 1) old) → r.param < end
+  left_low r there = rise_below 0 end _ parted r.param (IsIn-append_second (map param_of front) (place ∷ drop (k + 1) (map param_of old)) r.param (inr (left r there)))
+
+  pub left_apart : (r : RunningView) → IsIn r (drop (k + 1) old) → r.param ≡ place → ⊥
+  left_apart r there same = let l = rise_behind 0 end (map param_of front) place _ parted r.param (left r there) in omega (arith, l, same)
 
 -- ---- what runs takes no more than all
 

@@ -1,5 +1,5 @@
 -- Levels while they are taken: one after another runs through its timeline.
-use Rattle.std.proofs.Common.{ℕ, ◌≡◌, ◌+◌, ◌<◌, ◌≤◌, length, List, [], ◌∷◌, ◌++◌, drop, slice_index_or, slice_set, inl, inr, refl, sym, ◌∙◌, ap, arith, subst}
+use Rattle.std.proofs.Common.{ℕ, ◌≡◌, ◌+◌, ◌<◌, ◌≤◌, length, List, [], ◌∷◌, ◌++◌, drop, slice_index_or, inl, inr, refl, sym, ◌∙◌, arith, subst}
 use Rattle.std.specs.Prelude.{◌⊎◌}
 use Rattle.std.proofs.lemmas.List.{drop_all}
 use Rattle.law_base.specs.Members.{IsIn}
@@ -8,8 +8,8 @@ use Rattle.law_base.proofs.Places.{this_or_other}
 use Rattle.meaning.specs.declared.params.Param.{Param}
 use Rattle.meaning.proofs.FirstItems.{AreInOrder}
 use Rattle.meaning.proofs.ParamOrder.{nodes_rise}
-use Rattle.automation.specs.Levels.{LevelView, IsLevelOf, Keeps, level_of}
-use Rattle.automation.proofs.Places.{own_level, other_level}
+use Rattle.automation.specs.Levels.{LevelView, HasRoom, IsLevelOf, Keeps, KeepsUntil, level_of}
+use Rattle.automation.specs.Ready.{Rests, RunningView, TakesLevel}
 use Rattle.automation.proofs.Running.{next_or_later}
 
 -- a parameter is still to come, or it has its level and is one of those that may move on, or it keeps its level
@@ -34,41 +34,49 @@ apart params i j d order l m other same = elim (either_way i j other) [
     either_way i j other = grind arith
 
 -- one more is taken, at a place
-module _ (q first : ℕ) (params : List Param) (order : AreInOrder params) (levels : List LevelView) (all : List ℕ) (k place : ℕ) (y : LevelView) (p : Param)
-    (low : k < length all) (is : (d : ℕ) → slice_index_or all k d ≡ place) (there : place < length params) (named : (d : Param) → slice_index_or params place d ≡ p) (within : p.id.node.0 < length levels) where
-  abbrev pub new_levels : List LevelView
-  new_levels = slice_set levels p.id.node.0 y
-
-  at_node : (d : Param) → level_of new_levels (slice_index_or params place d).id.node.0 ≡ y
-  at_node d = own_level q levels p.id.node.0 y within _ (ap (λ (x : Param). x.id.node.0) (named d))
-
+module _ (q first : ℕ) (params : List Param) (order : AreInOrder params) (levels new : List LevelView) (all : List ℕ) (k place : ℕ)
+    (low : k < length all) (is : (d : ℕ) → slice_index_or all k d ≡ place) (there : place < length params) (takes : (d : Param) → TakesLevel q (slice_index_or params place d) first levels new) where
   -- the others are as they were
-  others_taken : (moving : List ℕ) (i : ℕ) (d : Param) → i < length params → (i ≡ place → ⊥) → IsTaken q params first levels all k moving i d → IsTaken q params first new_levels all (k + 1) moving i d
+  untouched : (i : ℕ) (d : Param) → i < length params → (i ≡ place → ⊥) → level_of new (slice_index_or params i d).id.node.0 ≡ level_of levels (slice_index_or params i d).id.node.0
+  untouched i d l other = (takes d).others _ (apart params i place d order l there other)
+
+  others_taken : (moving : List ℕ) (i : ℕ) (d : Param) → i < length params → (i ≡ place → ⊥) → IsTaken q params first levels all k moving i d → IsTaken q params first new all (k + 1) moving i d
   others_taken moving i d l other old = elim old [
     | inl ahead ↦ elim (next_or_later all k i 0 low ahead) [
       | inl here ↦ absurd (other (here ∙ is 0))
       | inr later ↦ inl later
     ]
-    | inr (inl moves) ↦ inr (inl (moves.0, subst (IsLevelOf q (slice_index_or params i d) first) (sym untouched) moves.1))
-    | inr (inr kept) ↦ inr (inr (subst (λ (x : LevelView). Keeps q first x (slice_index_or params i d)) (sym untouched) kept))
+    | inr (inl moves) ↦ inr (inl (moves.0, subst (IsLevelOf q (slice_index_or params i d) first) (sym (untouched i d l other)) moves.1))
+    | inr (inr kept) ↦ inr (inr (subst (λ (x : LevelView). Keeps q first x (slice_index_or params i d)) (sym (untouched i d l other)) kept))
   ]
-    where
-      untouched : level_of new_levels (slice_index_or params i d).id.node.0 ≡ level_of levels (slice_index_or params i d).id.node.0
-      untouched = other_level q levels p.id.node.0 y within _ (λ e. apart params i place d order l there other (e ∙ sym (ap (λ (x : Param). x.id.node.0) (named d))))
+
+  -- there is still room
+  pub room_kept : (p : Param) → HasRoom q (level_of levels p.id.node.0) → HasRoom q (level_of new p.id.node.0)
+  room_kept p old = elim (this_or_other p.id.node.0 (slice_index_or params place p).id.node.0) [
+    | inl same ↦ subst (λ n. HasRoom q (level_of new n)) (sym same) (takes p).level.room
+    | inr other ↦ subst (HasRoom q) (sym ((takes p).others _ other)) old
+  ]
+
+  -- another one that rests goes on to rest
+  pub rests_on : (r : RunningView) → r.param < length params → (r.param ≡ place → ⊥) → Rests q params first levels r → Rests q params first new r
+  rests_on r l other old = record {
+    level = λ d. subst (λ (x : LevelView). KeepsUntil q first r.until x (slice_index_or params r.param d)) (sym (untouched r.param d l other)) (old.level d);
+    place = old.place;
+  }
 
   -- it keeps its level
-  pub stays : (moving : List ℕ) → Keeps q first y p → (i : ℕ) (d : Param) → i < length params → IsTaken q params first levels all k moving i d → IsTaken q params first new_levels all (k + 1) moving i d
+  pub stays : (moving : List ℕ) → ((d : Param) → Keeps q first (level_of new (slice_index_or params place d).id.node.0) (slice_index_or params place d))
+      → (i : ℕ) (d : Param) → i < length params → IsTaken q params first levels all k moving i d → IsTaken q params first new all (k + 1) moving i d
   stays moving keeps i d l old = elim (this_or_other i place) [
-    | inl same ↦ subst (λ n. IsTaken q params first new_levels all (k + 1) moving n d) (sym same)
-        (inr (inr (subst (λ (x : LevelView). Keeps q first x (slice_index_or params place d)) (sym (at_node d)) (subst (Keeps q first y) (sym (named d)) keeps))))
+    | inl same ↦ subst (λ n. IsTaken q params first new all (k + 1) moving n d) (sym same) (inr (inr (keeps d)))
     | inr other ↦ others_taken moving i d l other old
   ]
 
   -- it may move on
-  pub moves_on : (moving : List ℕ) → IsLevelOf q p first y → (i : ℕ) (d : Param) → i < length params → IsTaken q params first levels all k moving i d → IsTaken q params first new_levels all (k + 1) (moving ++ place ∷ []) i d
-  moves_on moving own i d l old = elim (this_or_other i place) [
-    | inl same ↦ subst (λ n. IsTaken q params first new_levels all (k + 1) (moving ++ place ∷ []) n d) (sym same)
-        (inr (inl (IsIn-append_second moving (place ∷ []) place (inl refl), subst (IsLevelOf q (slice_index_or params place d) first) (sym (at_node d)) (subst (λ (x : Param). IsLevelOf q x first y) (sym (named d)) own))))
+  pub moves_on : (moving : List ℕ) → (i : ℕ) (d : Param) → i < length params → IsTaken q params first levels all k moving i d → IsTaken q params first new all (k + 1) (moving ++ place ∷ []) i d
+  moves_on moving i d l old = elim (this_or_other i place) [
+    | inl same ↦ subst (λ n. IsTaken q params first new all (k + 1) (moving ++ place ∷ []) n d) (sym same)
+        (inr (inl (IsIn-append_second moving (place ∷ []) place (inl refl), (takes d).level)))
     | inr other ↦ elim (others_taken moving i d l other old) [
       | inl ahead ↦ inl ahead
       | inr (inl moves) ↦ inr (inl (IsIn-append_first moving (place ∷ []) i moves.0, moves.1))

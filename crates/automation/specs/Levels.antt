@@ -4,6 +4,7 @@ use Rattle.wa_base.specs.declared.graph_names.Rate.{Rate}
 use Rattle.wa_base.specs.declared.graph_names.Rate.TheVariants.{A, K}
 use Rattle.param_events.specs.Values.{value_at}
 use Rattle.meaning.specs.declared.params.Param.{Param}
+use Rattle.param_cursor.specs.Cursors.{place_at}
 use Rattle.law_base.specs.Members.{IsIn}
 
 -- What contracts see of a level: the automation rate, and one value for each frame, or one for all.
@@ -34,6 +35,14 @@ pub record IsLevelOf (q : ℕ) (param : Param) (first : ℕ) (level : LevelView)
 -- a level is that of a parameter in the quantum that begins at a frame, and in all later ones
 abbrev pub Keeps : ℕ → ℕ → LevelView → Param → Type 0
 Keeps q first level param = (later : ℕ) → first ≤ later → IsLevelOf q param later level
+
+-- it is that of the parameter in each quantum from a frame on that ends at or before another frame
+abbrev pub KeepsUntil : ℕ → ℕ → ℕ → LevelView → Param → Type 0
+KeepsUntil q first until level param = (later : ℕ) → first ≤ later → later + q ≤ until → IsLevelOf q param later level
+
+-- a cursor stands at the first frame of each such quantum in the timeline of a parameter
+abbrev pub StandsUntil : ℕ → ℕ → ℕ → ℕ → Param → Type 0
+StandsUntil q first until cursor param = (later : ℕ) → first ≤ later → later + q ≤ until → cursor ≡ place_at later param.line.events
 
 -- stands where there is no level
 abbrev pub no_level : LevelView

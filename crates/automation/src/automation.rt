@@ -1,12 +1,12 @@
-ghost use Rattle.std.specs.Prelude.{max, ◌≡◌, [], ◌<◌, ◌≤◌, ◌+◌, ◌^◌, ℕ, length, map, take, OnOk};
+ghost use Rattle.std.specs.Prelude.{max, ◌≡◌, ◌↔◌, [], ◌<◌, ◌≤◌, ◌+◌, ◌^◌, ℕ, List, false, length, map, slice_index_or, take, IsTrue, OnOk};
 ghost use Rattle.std.specs.List.{sum_by};
 ghost use Rattle.law_base.specs.Members.{IsIn};
 ghost use Rattle.wa_base.specs.Contexts.{IsQuantumSize};
 ghost use Rattle.meaning.specs.declared.params.Param.{Param as a_param};
-ghost use Rattle.automation.specs.Levels.{AreLevels, HasRoom, level_of};
-ghost use Rattle.automation.specs.Ready.{RunningView as a_running, AreOfNodes, AreRunning, IsHeld, IsReady, Stands, looks_at, param_of};
+ghost use Rattle.automation.specs.Levels.{LevelView as a_level, AreLevels, HasRoom, Keeps, level_of};
+ghost use Rattle.automation.specs.Ready.{RunningView as a_running, AllRest, AreOfNodes, AreRunning, IsHeld, IsReady, Rests, Stands, TakesLevel, looks_at, param_of};
 
-use crate::level::Level;
+use crate::level::{Lasting, Level};
 use meaning::Param;
 use param_cursor::Cursor;
 use std::alloc::Global;
@@ -15,7 +15,7 @@ use std::sync::ledger::Ledger;
 use wa_base::{NoMemory, NodeId, Steps};
 
 /// The automation of all parameters of a world: the level of each in the last quantum, and for each
-/// whose level may still change the place in its timeline.
+/// whose level may still change the place in its timeline, and the frame until which both stay.
 ///
 /// A quantum takes two calls over the same parameters: `prepare`, or `again` where no parameter
 /// changed since the last quantum, and `take`. Each node has at most one parameter of those that can
@@ -35,6 +35,9 @@ struct Running {
     // its place among all parameters
     param: usize,
     cursor: Cursor,
+    // In each quantum that ends at or before this frame its level is the one at hand, and the cursor
+    // stands where it is. 0 where nothing is known.
+    until: u64,
 }
 
 impl Model for Running {
@@ -42,9 +45,9 @@ impl Model for Running {
 
     ghost Value = { RunningView };
 
-    ghost view = { λ r. record { param = r.param; cursor = r.cursor } };
+    ghost view = { λ r. record { param = r.param; cursor = r.cursor; until = r.until } };
 
-    ghost inverse = { λ r. record { param = r.param; cursor = r.cursor } };
+    ghost inverse = { λ r. record { param = r.param; cursor = r.cursor; until = r.until } };
 }
 
 impl Model for Automation {
@@ -56,6 +59,75 @@ impl Model for Automation {
     ghost view = { λ s. record { quantum = s.quantum; running = s.running.items; levels = s.levels.items } };
 
     ghost invariant = { λ s. IsQuantumSize s.quantum };
+}
+
+impl Running {
+    // Whether its level in the quantum of so many frames that begins at `first` is at hand.
+    fn rests(&self, first: u64, frames: usize) -> bool
+        requires { IsQuantumSize frames }
+        ensures { IsTrue result ↔ (first + frames ≤ self.now.until) }
+    {
+        self.until.saturating_sub(first) >= frames as u64
+    }
+
+    // Moves to a frame in its timeline, where it does not rest.
+    fn reseek<L: Ledger>(
+        &mut self,
+        params: &[Param],
+        first: u64,
+        frames: usize,
+        steps: &mut Steps<L>,
+    )
+        requires quantum { IsQuantumSize frames }
+        requires param { self.old.param < length params.now }
+        requires rests { (levels : List a_level) × Rests frames params.now first levels self.old }
+        ensures param { self.new.param ≡ self.old.param }
+        ensures stands { Stands params.now first self.new }
+        ensures rests { (levels : List a_level) → Rests frames params.now first levels self.old → Rests frames params.now first levels self.new }
+        ensures cost { (digits : a_param → ℕ) → ((p : a_param) → IsIn p params.now → length p.line.events < 2 ^ digits p) → steps.new ≤ steps.old + slice_index_or (map digits params.now) self.old.param 0 }
+    {
+        if !self.rests(first, frames) {
+            let param = &params[self.param];
+            self.cursor.reseek(first, &param.line, steps);
+        }
+    }
+
+    // Takes its level in the quantum of so many frames that begins at `first`, where it does not rest.
+    // Returns whether it may still change.
+    fn take<L: Ledger>(
+        &mut self,
+        levels: &mut [Level],
+        params: &[Param],
+        first: u64,
+        frames: usize,
+        steps: &mut Steps<L>,
+    ) -> bool
+        requires quantum { IsQuantumSize frames }
+        requires first { first ≤ 2 ^ 62 }
+        requires param { self.old.param < length params.now }
+        requires room { (p : a_param) → IsIn p params.now → (p.id.node.0 < length levels.old) × HasRoom frames (level_of levels.old p.id.node.0) }
+        requires stands { Stands params.now first self.old }
+        requires rests { Rests frames params.now first levels.old self.old }
+        ensures param { self.new.param ≡ self.old.param }
+        ensures length { length levels.new ≡ length levels.old }
+        ensures level { (d : a_param) → TakesLevel frames (slice_index_or params.now self.old.param d) first levels.old levels.new }
+        ensures rests { Rests frames params.now first levels.new self.new }
+        ensures keeps { result ≡ false → (d : a_param) → Keeps frames first (level_of levels.new (slice_index_or params.now self.old.param d).id.node.0) (slice_index_or params.now self.old.param d) }
+        ensures cost { steps.new ≤ steps.old + slice_index_or (map (looks_at frames first) params.now) self.old.param 0 }
+    {
+        if self.rests(first, frames) {
+            return true;
+        }
+        let param = &params[self.param];
+        let node = param.id.node.0 as usize;
+        match levels[node].take(param, &mut self.cursor, first, frames, steps) {
+            Lasting::Until(until) => {
+                self.until = until;
+                true
+            }
+            Lasting::Ever => false,
+        }
+    }
 }
 
 impl Automation {
@@ -103,13 +175,20 @@ impl Automation {
         ensures levels { self.new.levels ≡ self.old.levels }
         ensures cost { (digits : a_param → ℕ) → ((p : a_param) → IsIn p params.now → length p.line.events < 2 ^ digits p) → steps.new ≤ steps.old + sum_by digits params.now }
     {
-        reseek_each(self.running.as_mut_slice(), params, first, steps);
+        reseek_each(
+            self.running.as_mut_slice(),
+            params,
+            first,
+            self.quantum,
+            steps,
+        );
     }
 
     /// Takes the values of all parameters in the quantum that begins at `first`. It takes no memory,
     /// and looks at two events of each timeline and those with a time in the quantum at most.
     ///
-    /// A parameter whose level stays is left out until the next `prepare`.
+    /// A parameter whose level stays is left out until the next `prepare`. One whose level stays until
+    /// its next event takes one comparison in each quantum before that.
     pub fn take<L: Ledger>(&mut self, params: &[Param], first: u64, steps: &mut Steps<L>)
         requires nodes { (nodes : ℕ) × AreOfNodes nodes params.now }
         requires first { first ≤ 2 ^ 62 }
@@ -172,37 +251,44 @@ fn run_each<L: Ledger>(
     ensures running { OnOk result (AreRunning (length params.now) running.new.items) }
     ensures all { OnOk result ((i : ℕ) → i < length params.now → IsIn i (map param_of running.new.items)) }
     ensures stands { OnOk result ((r : a_running) → IsIn r running.new.items → Stands params.now first r) }
+    ensures unknown { OnOk result ((r : a_running) → IsIn r running.new.items → r.until ≡ 0) }
     ensures cost { (digits : a_param → ℕ) → ((p : a_param) → IsIn p params.now → length p.line.events < 2 ^ digits p) → steps.new ≤ steps.old + sum_by digits params.now }
 {
     for (i, param) in params.iter().enumerate() {
         let mut cursor = Cursor::new();
         cursor.reseek(first, &param.line, steps);
-        running.push(Running { param: i, cursor })?;
+        running.push(Running {
+            param: i,
+            cursor,
+            until: 0,
+        })?;
     }
     Ok(())
 }
 
-// Moves to a frame in the timeline of each running parameter.
+// Moves to a frame in the timeline of each running parameter that does not rest.
 fn reseek_each<L: Ledger>(
     running: &mut [Running],
     params: &[Param],
     first: u64,
+    frames: usize,
     steps: &mut Steps<L>,
 )
-    requires { AreRunning (length params.now) running.old }
+    requires quantum { IsQuantumSize frames }
+    requires running { AreRunning (length params.now) running.old }
+    requires rests { (levels : List a_level) × AllRest frames params.now first levels running.old }
     ensures params { map param_of running.new ≡ map param_of running.old }
     ensures stands { (r : a_running) → IsIn r running.new → Stands params.now first r }
+    ensures rests { (levels : List a_level) → AllRest frames params.now first levels running.old → AllRest frames params.now first levels running.new }
     ensures cost { (digits : a_param → ℕ) → ((p : a_param) → IsIn p params.now → length p.line.events < 2 ^ digits p) → steps.new ≤ steps.old + sum_by digits params.now }
 {
     for k in 0..running.len() {
-        let one = &mut running[k];
-        let param = &params[one.param];
-        one.cursor.reseek(first, &param.line, steps);
+        running[k].reseek(params, first, frames, steps);
     }
 }
 
-// Takes the values of each running parameter, one after another. Returns how many have a level that may still
-// change: these stand in front then.
+// Takes the values of each running parameter that does not rest, one after another. Returns how many have a
+// level that may still change: these stand in front then.
 fn take_each<L: Ledger>(
     levels: &mut [Level],
     running: &mut [Running],
@@ -222,10 +308,7 @@ fn take_each<L: Ledger>(
     let mut moving = 0;
     for k in 0..running.len() {
         let mut one = running[k];
-        let param = &params[one.param];
-        let node = param.id.node.0 as usize;
-        let stays = levels[node].take(param, &mut one.cursor, first, frames, steps);
-        if !stays {
+        if one.take(levels, params, first, frames, steps) {
             running[moving] = one;
             moving += 1;
         }

@@ -1,8 +1,8 @@
-ghost use Rattle.std.specs.Prelude.{◌≡◌, ◌<◌, ◌≤◌, ◌+◌, ◌^◌, ℕ, pos, length, slice_index_or, IsTrue, OnOk};
+ghost use Rattle.std.specs.Prelude.{◌≡◌, ◌<◌, ◌≤◌, ◌+◌, ◌^◌, ℕ, pos, length, slice_index_or, OnOk};
 ghost use Rattle.wa_base.specs.Contexts.{IsQuantumSize};
 ghost use Rattle.param_cursor.specs.Cursors.{place_at, within};
-ghost use Rattle.automation.specs.Levels.{HasRoom, IsLevelOf, Keeps};
-ghost use Rattle.automation.specs.Held.{AreValues};
+ghost use Rattle.automation.specs.Levels.{HasRoom, IsLevelOf};
+ghost use Rattle.automation.specs.Held.{AreValues, Lasts};
 
 use meaning::Param;
 use param_cursor::Cursor;
@@ -26,6 +26,14 @@ pub struct Level {
 pub enum Values<'a> {
     Steady(Fix),
     Moving(&'a [Fix]),
+}
+
+// In which later quanta a level is the same.
+#[derive(Clone, Copy)]
+pub(crate) enum Lasting {
+    // Those that end at or before a frame.
+    Until(u64),
+    Ever,
 }
 
 impl Model for Level {
@@ -57,7 +65,7 @@ impl Level {
     }
 
     // Takes the values of a parameter in the quantum of so many frames that begins at `first`. Returns
-    // whether they are those of all later quanta too.
+    // in which later quanta they are the same.
     pub(crate) fn take<L: Ledger>(
         &mut self,
         param: &Param,
@@ -65,13 +73,13 @@ impl Level {
         first: u64,
         frames: usize,
         steps: &mut Steps<L>,
-    ) -> bool
+    ) -> Lasting
         requires room { HasRoom frames self.old }
         requires quantum { IsQuantumSize frames }
         requires first { first ≤ 2 ^ 62 }
         requires stands { cursor.old ≡ place_at first param.now.line.events }
         ensures level { IsLevelOf frames param.now first self.new }
-        ensures keeps { IsTrue result → Keeps frames first self.new param.now }
+        ensures lasts { Lasts frames first self.new cursor.new param.now result }
         ensures cost { steps.new ≤ steps.old + 2 + length (within first (first + frames) param.now.line.events) }
     {
         self.rate = param.rate;
@@ -81,14 +89,18 @@ impl Level {
         };
         let is_past = cursor.is_past(&param.line);
         match cursor.draw(&mut self.values[0..count], first, &param.line, steps) {
-            Some(value) => {
+            Some(stay) => {
                 self.steady = true;
-                self.values[0] = value;
-                is_past
+                self.values[0] = stay.value;
+                if is_past {
+                    Lasting::Ever
+                } else {
+                    Lasting::Until(stay.until)
+                }
             }
             None => {
                 self.steady = count == 1;
-                false
+                Lasting::Until(0)
             }
         }
     }

@@ -13,5 +13,5 @@ mod widening;
 pub use four::Four;
 pub use mix_rules::count;
 pub use mixing::mix_add;
-pub use settling::{level_of, sum_into};
+pub use settling::{level_of, pair_of, sum_into};
 pub use sums::{CHANNELS, Sums};

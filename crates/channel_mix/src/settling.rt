@@ -16,8 +16,8 @@ pub fn sum_into(out: &mut [Fix], first: &[Fix], second: &[Fix])
     }
 }
 
-// The sum of two samples, saturated.
-fn pair_of(x: Fix, y: Fix) -> Fix
+/// The sum of two samples, saturated.
+pub fn pair_of(x: Fix, y: Fix) -> Fix
     ensures { result ≡ saturated (x +ℤ y) }
 {
     sat(i64::from(x) + i64::from(y))

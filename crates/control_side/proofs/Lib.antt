@@ -6,6 +6,7 @@ mod Leaving
 mod Marks
 mod Named
 mod NewNames
+pub mod Open
 mod Parameters
 pub mod Starting
 pub mod Stepping

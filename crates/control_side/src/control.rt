@@ -10,12 +10,13 @@ ghost use Rattle.control_side.specs.Assets.{HasAsset, IsAssetOf};
 ghost use Rattle.control_side.specs.Machine.{Machine, IsAccepted, first_machine, caught_up};
 ghost use Rattle.ctx_state.specs.Context.{IsInState, next, turn_of, start_refusal, with_start, resume_refusal, resumed, may_suspend, with_suspension};
 ghost use Rattle.control_side.specs.Steady.{IsSteady};
+ghost use Rattle.control_msgs.specs.Messages.{ended_marked};
 ghost use Rattle.control_side.specs.Turns as turns;
 ghost use Rattle.control_side.specs.Step as spec;
 ghost use Rattle.control_side.specs.Step.{Steps, Sends, KeepsTime, RunsOnceStarted};
 
 use crate::decide::Decided;
-use crate::ends::ended_lines;
+use crate::ends::{ended_lines, open_until};
 use control_msgs::mark_ended;
 use ctx_state::{Context, Turn};
 use io_edge::Fetched;
@@ -42,6 +43,8 @@ pub struct Control {
     pub(crate) context: Context,
     pub(crate) world: World,
     pub(crate) book: Book,
+    // No source ends before this frame.
+    open_until: u64,
 }
 
 impl Model for Control {
@@ -51,9 +54,9 @@ impl Model for Control {
 
     ghost view = { λ s. machine_of s.context s.world s.book };
 
-    ghost use Rattle.control_side.specs.Steady.{IsSteady};
+    ghost use Rattle.control_side.specs.Steady.{AreOpen, IsSteady};
 
-    ghost invariant = { λ s. IsSteady (machine_of s.context s.world s.book) };
+    ghost invariant = { λ s. IsSteady (machine_of s.context s.world s.book) × AreOpen s.open_until s.world.scheds.items };
 }
 
 impl Control {
@@ -68,6 +71,7 @@ impl Control {
             context: Context::new(alloc, spec),
             world: World::new(alloc, spec)?,
             book: Book::new(alloc),
+            open_until: 0,
         })
     }
 }
@@ -144,7 +148,10 @@ impl Control {
         };
         match name {
             Some(name) => self.create(name, &change)?,
-            None => self.world.apply(&change)?,
+            None => {
+                self.open_until = 0;
+                self.world.apply(&change)?;
+            }
         }
         Ok(change)
     }
@@ -159,6 +166,7 @@ impl Control {
         ensures err { OnErr result (self.new ≡ self.old) }
     {
         let object = self.created_by(&change.edit);
+        self.open_until = 0;
         self.book.reserve(name)?;
         self.world.apply(change)?;
         self.book.bind(name, object)?;
@@ -245,17 +253,18 @@ impl Control {
         self.world.spec
     }
 
-    /// The lines of the sources that end in the next quantum, in order of node number.
+    /// The lines of the sources that end in the next quantum, in order of node number. Where there is
+    /// none, the turn marks none.
     pub fn lines_of_quantum(&self, alloc: Global) -> Result<Vec<Line>, NoMemory>
         requires { self.now.context.state ≡ State.Running }
-        ensures { IfOk result (λ lines. lines.items ≡ turns.ended_lines self.now.first_names (next self.now.context) self.now.world.scheds.items) }
+        ensures lines { IfOk result (λ lines. lines.items ≡ turns.ended_lines self.now.first_names (next self.now.context) self.now.world.scheds.items) }
+        ensures none { IfOk result (λ lines. length lines.items ≡ 0 → ended_marked (next self.now.context) self.now.world ≡ self.now.world) }
     {
-        ended_lines(
-            alloc,
-            &self.book,
-            self.world.scheds.as_slice(),
-            self.context.now() + u64::from(self.context.spec().quantum),
-        )
+        let next = self.context.now() + u64::from(self.context.spec().quantum);
+        if next < self.open_until {
+            return Ok(Vec::new(alloc));
+        }
+        ended_lines(alloc, &self.book, self.world.scheds.as_slice(), next)
     }
 
     /// Goes over one quantum: the time moves on, and the sources that end in it are marked. The current
@@ -268,7 +277,11 @@ impl Control {
         ensures valid { IsValid self.new.world }
     {
         let turn = self.context.turn();
-        mark_ended(&mut self.world, self.context.now());
+        let next = self.context.now();
+        if self.open_until <= next {
+            mark_ended(&mut self.world, next);
+            self.open_until = open_until(self.world.scheds.as_slice());
+        }
         turn
     }
 

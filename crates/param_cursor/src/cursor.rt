@@ -5,7 +5,7 @@ ghost use Rattle.param_events.specs.Values.{value_at};
 ghost use Rattle.param_cursor.specs.Cursors as cursors;
 
 use crate::drawing::draw_level;
-use crate::levels::level;
+use crate::levels::{Stay, level, stay_until};
 use crate::spans::{Around, block_end, draw_around};
 use param_events::{Event, Timeline};
 use std::marker::Model;
@@ -102,9 +102,10 @@ impl Cursor {
     }
 
     /// Takes the intrinsic values of a block of at most 1,024 frames that begins where the cursor stands,
-    /// and moves the cursor behind it. It answers the value that all frames have, and writes nothing, or
-    /// it writes one for each. Where no event is to come, a value that all frames have is that of all later
-    /// frames too. It looks at no more than two events, and those with a time in the block.
+    /// and moves the cursor behind it. It answers the value that all frames have, and how long it stays and
+    /// the cursor stands, and writes nothing; or it writes a value for each. Where no event is to come, a
+    /// value that all frames have is that of all later frames too. It looks at no more than two events, and
+    /// those with a time in the block.
     ///
     /// A ramp, and a curve between two of its points, is divided out only where it begins or the block
     /// does. From there on each frame takes an addition and a comparison.
@@ -114,12 +115,14 @@ impl Cursor {
         first: u64,
         line: &Timeline,
         steps: &mut Steps<L>,
-    ) -> Option<Fix>
+    ) -> Option<Stay>
         requires first { first ≤ 2 ^ 62 }
         requires frames { length out.old ≤ 1024 }
         requires stands { self.old ≡ cursors.place_at first line.now.events }
-        ensures level { IfSome result (λ value. (m : ℕ) → m < length out.new → value_at line.now.base line.now.events (first + m) ≡ value) }
-        ensures lasts { self.old ≡ length line.now.events → IfSome result (λ value. (later : ℕ) → first ≤ later → value_at line.now.base line.now.events later ≡ value) }
+        ensures level { IfSome result (λ stay. (later : ℕ) → first ≤ later → later < stay.until → value_at line.now.base line.now.events later ≡ stay.value) }
+        ensures within { IfSome result (λ stay. first + length out.new ≤ stay.until) }
+        ensures stays { IfSome result (λ stay. (later : ℕ) → first ≤ later → later ≤ stay.until → self.new ≡ cursors.place_at later line.now.events) }
+        ensures lasts { self.old ≡ length line.now.events → IfSome result (λ stay. (later : ℕ) → first ≤ later → value_at line.now.base line.now.events later ≡ stay.value) }
         ensures values { result ≡ None → (m : ℕ) → m < length out.new → slice_index_or out.new m (pos 0) ≡ value_at line.now.base line.now.events (first + m) }
         ensures stands { self.new ≡ cursors.place_at (first + length out.new) line.now.events }
         ensures moved { steps.new + self.old ≤ steps.old + 2 + self.new }
@@ -131,9 +134,11 @@ impl Cursor {
         let mut next = Self::event_at(place, line, steps);
         let mut end = block_end(next, first, count);
         if end == count {
-            let level = level(line.base(), here, next, first);
-            if level.is_some() {
-                return level;
+            if let Some(value) = level(line.base(), here, next, first) {
+                return Some(Stay {
+                    value,
+                    until: stay_until(next),
+                });
             }
         }
         draw_around(out, 0, end, Around { place, here, next }, line, first);
@@ -167,9 +172,9 @@ impl Cursor {
         ensures moved { steps.new + self.old ≤ steps.old + 2 + self.new }
         ensures cost { steps.new ≤ steps.old + 2 + length (cursors.within first (first + length out.new) line.now.events) }
     {
-        if let Some(value) = self.draw(out, first, line, steps) {
+        if let Some(stay) = self.draw(out, first, line, steps) {
             let end = out.len();
-            draw_level(out, 0, end, value);
+            draw_level(out, 0, end, stay.value);
         }
     }
 }

@@ -9,3 +9,4 @@ mod slope;
 mod spans;
 
 pub use cursor::Cursor;
+pub use levels::Stay;

@@ -1,9 +1,11 @@
 pub mod Slots
 pub mod Connections
 pub mod Attenuating
+pub mod Silence
 pub mod Sources
 pub mod Lanes
 pub mod Orders
+pub mod Pairs
 pub mod PassLaws
 pub mod Holding
 pub mod Heard

@@ -23,3 +23,13 @@ IsCarried q frames channels (Moving v) = (length v.now ≡ channels * q) × ((m 
 pub record IsWidened (b : BlockView) (lanes : ℕ) (wide : List ℤ) : Type 0 where
   pub length : length wide ≡ lanes * b.frames
   pub values : (c m : ℕ) → c < lanes → m < b.frames → sample b.frames wide c m ≡ shown b m c
+
+-- the value of a channel at frame m
+abbrev pub held_at : ℕ → Held → ℕ → ℕ → ℤ
+held_at q (Steady v) c m = slice_index_or v.now c (pos 0)
+held_at q (Moving v) c m = sample q v.now c m
+
+-- it has so many channels
+abbrev pub HasChannels : ℕ → ℕ → Held → Type 0
+HasChannels q n (Steady v) = length v.now ≡ n
+HasChannels q n (Moving v) = length v.now ≡ n * q

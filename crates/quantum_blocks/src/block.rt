@@ -1,4 +1,4 @@
-ghost use Rattle.std.specs.Prelude.{◌≡◌, ◌≤◌, ◌<◌, ◌*◌, ◌+◌, ◌/◌, ◌^◌, ◌+ℤ◌, ◌∷◌, [], ℕ, ℤ, pos, Some, length, slice_index_or, map, filter, OnOk, IfOk, IfSome, FitsSigned, if◌then◌else◌};
+ghost use Rattle.std.specs.Prelude.{◌≡◌, ◌≤◌, ◌<◌, ◌*◌, ◌+◌, ◌/◌, ◌^◌, ◌+ℤ◌, ◌∷◌, [], ℕ, ℤ, pos, Some, length, slice_index_or, map, filter, OnOk, IfOk, IfSome, FitsSigned, IsTrue, if◌then◌else◌};
 ghost use Rattle.std.specs.Int.{w32};
 ghost use Rattle.wa_base.specs.Numbers.{sat as saturated, scale as scaled};
 ghost use Rattle.wa_base.specs.Contexts.{IsQuantumSize};
@@ -15,11 +15,11 @@ ghost use Rattle.quantum_blocks.specs.Fits.{AreSources};
 ghost use Rattle.channel_mix.specs.Sums.{sum_at};
 ghost use Rattle.quantum_blocks.specs.Held.{IsHeld, IsCarried, IsWidened};
 
-use crate::gathering::{Inlet, gather, moving_pair};
+use crate::gathering::{Inlet, gather, pair};
 use crate::held::Held;
 use crate::kernels::{
-    copy_values, fill, is_throughout, move_on, scale_all, scale_channels, scale_steady, silence,
-    sound, spread, unfold_if, up_to, up_to_each,
+    copy_values, fill, is_throughout, move_on, raise_channels, scale_all, scale_channels,
+    scale_steady, silence, sound, spread, unfold_if, up_to, up_to_each,
 };
 use crate::playing::Source;
 use channel_mix::{Sums, level_of, sum_into};
@@ -135,6 +135,16 @@ impl Block {
             Held::Steady(&self.values[0..self.lanes])
         } else {
             Held::Moving(&self.values[0..self.lanes * self.frames])
+        }
+    }
+
+    /// Whether it is seen at once to be silent: what moves is not looked at.
+    pub fn is_silent(&self) -> bool
+        ensures { IsTrue result → (lane m : ℕ) → lane < self.now.lanes → m < self.now.frames → at self.now lane m ≡ pos 0 }
+    {
+        match self.held() {
+            Held::Steady(held) => held.iter().all(|value| *value == 0),
+            Held::Moving(_) => false,
         }
     }
 
@@ -386,9 +396,15 @@ impl Block {
         ensures room { room_of self.new ≡ room_of self.old }
         ensures values { (w : world) (c m : ℕ) → c < inlet.count → m < self.old.frames → at self.new c m ≡ saturated (total (map (part (frame_of w blocks.now counts.now m) inlet.interp inlet.count c) (filter (leads_to inlet.target) into.now))) }
     {
-        match moving_pair(blocks, into, counts, inlet) {
-            Some((first, second)) => self.copy_sum(first, second, inlet.count),
-            None => {
+        match pair(blocks, into, counts, inlet) {
+            Some((Held::Moving(first), Held::Moving(second))) => {
+                self.copy_sum(first, second, inlet.count);
+            }
+            Some(
+                (Held::Moving(heard), Held::Steady(held))
+                | (Held::Steady(held), Held::Moving(heard)),
+            ) => self.copy_raised(heard, held),
+            _ => {
                 gather(sums, blocks, into, counts, inlet);
                 self.saturate(sums);
             }
@@ -409,6 +425,27 @@ impl Block {
         self.lanes = lanes;
         self.steady = false;
         sum_into(&mut self.values[0..lanes * self.frames], first, second);
+    }
+
+    // Becomes lanes with these values, each raised by the value of its lane, and saturated.
+    fn copy_raised(&mut self, heard: &[Fix], held: &[Fix])
+        requires heard { length heard.now ≡ length held.now * self.old.frames }
+        requires few { length held.now ≤ 32 }
+        requires room { length held.now * self.old.frames ≤ room_of self.old }
+        ensures frames { self.new.frames ≡ self.old.frames }
+        ensures lanes { self.new.lanes ≡ length held.now }
+        ensures room { room_of self.new ≡ room_of self.old }
+        ensures values { (lane m : ℕ) → lane < length held.now → m < self.old.frames → at self.new lane m ≡ saturated (sample self.old.frames heard.now lane m +ℤ slice_index_or held.now lane (pos 0)) }
+    {
+        self.lanes = held.len();
+        self.steady = false;
+        let frames = self.frames;
+        raise_channels(
+            &mut self.values[0..self.lanes * frames],
+            heard,
+            held,
+            frames,
+        );
     }
 
     /// Becomes what another block is.

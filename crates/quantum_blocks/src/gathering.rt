@@ -80,7 +80,8 @@ fn gather_each(sums: &mut Sums, blocks: &[Block], into: &[Edge], counts: &[u32],
     add_waiting(sums, waiting, inlet);
 }
 
-// Adds what a connection carries, if it leads to the inlet, or lets it wait until there are four.
+// Adds what a connection carries, if it leads to the inlet and is not silent, or lets it wait until there are
+// four.
 fn hear<'a>(
     sums: &mut Sums,
     blocks: &'a [Block],
@@ -100,12 +101,13 @@ fn hear<'a>(
     ensures sums { (w : world) (c m : ℕ) → c < inlet.count → m < sums.old.frames →
         sum_at sums.new c m +ℤ waiting_at result (c * sums.old.frames + m) ≡ (sum_at sums.old c m +ℤ waiting_at waiting.entry (c * sums.old.frames + m)) +ℤ (if leads_to inlet.target edge.now then part (frame_of w blocks.now counts.now m) inlet.interp inlet.count c edge.now else pos 0) }
 {
-    if !inlet.target.is_same(edge.to) {
+    let place = slot(reader(edge.from));
+    let block = &blocks[place];
+    if block.is_silent() || !inlet.target.is_same(edge.to) {
         return waiting;
     }
-    let place = slot(reader(edge.from));
     let channels = counts[place] as usize;
-    match blocks[place].output(edge.output as usize, channels) {
+    match block.output(edge.output as usize, channels) {
         Held::Steady(held) => {
             sums.add_steady(held, inlet.interp);
             waiting
@@ -177,37 +179,34 @@ fn add_waiting(sums: &mut Sums, waiting: Waiting<'_>, inlet: Inlet)
     }
 }
 
-// What the two connections to a node carry, where there are two, and both lead to the inlet, have its
-// number of channels and move.
-pub(crate) fn moving_pair<'a>(
+// What the two connections to a node carry, where there are two, and both lead to the inlet and have its
+// number of channels.
+pub(crate) fn pair<'a>(
     blocks: &'a [Block],
     into: &[Edge],
     counts: &[u32],
     inlet: Inlet,
-) -> Option<(&'a [Fix], &'a [Fix])>
+) -> Option<(Held<'a>, Held<'a>)>
     requires { (q : ℕ) × AreSources q counts.now blocks.now into.now }
-    ensures { (q : ℕ) → AreSources q counts.now blocks.now into.now → IfSome result (λ pair. IsPair q counts.now blocks.now into.now inlet pair.0.now pair.1.now) }
+    ensures { (q : ℕ) → AreSources q counts.now blocks.now into.now → IfSome result (λ pair. IsPair q counts.now blocks.now into.now inlet pair.0 pair.1) }
 {
     let [first, second] = into else {
         return None;
     };
-    let heard = moving(blocks, counts, first, inlet)?;
-    Some((heard, moving(blocks, counts, second, inlet)?))
+    let heard = brought(blocks, counts, first, inlet)?;
+    Some((heard, brought(blocks, counts, second, inlet)?))
 }
 
-// What a connection carries, where it leads to the inlet, has its number of channels and moves.
-fn moving<'a>(blocks: &'a [Block], counts: &[u32], edge: &Edge, inlet: Inlet) -> Option<&'a [Fix]>
+// What a connection carries, where it leads to the inlet and has its number of channels.
+fn brought<'a>(blocks: &'a [Block], counts: &[u32], edge: &Edge, inlet: Inlet) -> Option<Held<'a>>
     requires { (q : ℕ) × IsSource q counts.now blocks.now edge.now }
-    ensures { (q : ℕ) → IsSource q counts.now blocks.now edge.now → IfSome result (λ values. IsBrought q counts.now blocks.now edge.now inlet values.now) }
+    ensures { (q : ℕ) → IsSource q counts.now blocks.now edge.now → IfSome result (λ held. IsBrought q counts.now blocks.now edge.now inlet held) }
 {
     let place = slot(reader(edge.from));
     if !inlet.target.is_same(edge.to) || counts[place] as usize != inlet.count {
         return None;
     }
-    match blocks[place].output(edge.output as usize, inlet.count) {
-        Held::Moving(values) => Some(values),
-        Held::Steady(_) => None,
-    }
+    Some(blocks[place].output(edge.output as usize, inlet.count))
 }
 
 // Whether each connection comes from an end of one channel.

@@ -41,6 +41,7 @@ held_later params first later a l is = record {
     | inl runs ↦ inl runs
     | inr keeps ↦ inr (λ even up. keeps even (omega (arith, l, up)))
   ];
+  rests = λ r there. let old = is.rests r there in record { level = λ d even up. old.level d even (omega (arith, l, up)); place = λ d even up. old.place d even (omega (arith, l, up)) };
 }
 
 -- the parameter that a node's kind has is there

@@ -34,6 +34,7 @@ use Rattle.quantum_blocks.specs.Blocks.{BlockView, at, slot, block_of, counts_in
 use Rattle.quantum_blocks.specs.Connections.{into, leads_to}
 use Rattle.quantum_blocks.specs.Fits.{AreFit}
 use Rattle.quantum_blocks.proofs.Slots.{slot_is, lane_low}
+use Rattle.quantum_blocks.proofs.Silence.{no_values, none_heard, silent_carried}
 use Rattle.quantum_blocks.proofs.Sources.{input_sources, into_places}
 use Rattle.quantum_render.specs.declared.memory.Memory.{Memory}
 use Rattle.quantum_render.specs.Idle.{IsMarked, IsUnheard, IsQuiet, IsIdle, AreIdle}
@@ -45,19 +46,12 @@ use Rattle.quantum_render.specs.Stands.{RendererView, Rests}
 use Rattle.quantum_render.proofs.Drawing.{draws_anyway, silence_scaled}
 use Rattle.quantum_render.proofs.Rendering.{unstored}
 use Rattle.quantum_render.proofs.Ports.{some_frames}
-use Rattle.quantum_render.proofs.Silence.{no_values, none_heard}
 
 -- ---- what a silent block has
 
--- a lane that a block lacks is silent too
 pub silent_drafts : (w : World) (counts : List ℕ) (blocks : List BlockView) → AreFit w counts blocks → (d : End) → IsIn d (ends w.graph.value) → IsSilent blocks d
     → (m : ℕ) → m < quantum_of w.spec → drafts_of blocks counts m d ≡ (λ o c. pos 0)
-silent_drafts w counts blocks fit d in_d silent m l = fun_ext (λ o. fun_ext (λ c. by_lane c (o * counts_in counts d + c) (nat_lt c (counts_in counts d)) (nat_lt (o * counts_in counts d + c) (block_of blocks d).lanes) refl))
-  where
-    by_lane : (c lane : ℕ) (a b : Bool) → nat_lt lane (block_of blocks d).lanes ≡ b → (if a then if b then at (block_of blocks d) lane m else pos 0 else pos 0) ≡ pos 0
-    by_lane c lane false b t = refl
-    by_lane c lane true false t = refl
-    by_lane c lane true true t = silent lane m (let low : lane < (block_of blocks d).lanes = grind (arith, nat_tests) in low) (subst (λ n. m < n) (sym (fit.frames d in_d)) l)
+silent_drafts w counts blocks fit d in_d silent m l = fun_ext (λ o. silent_carried (block_of blocks d) (counts_in counts d) o m (λ lane low. silent lane m low (subst (λ n. m < n) (sym (fit.frames d in_d)) l)))
 
 -- ---- frames
 

@@ -1,5 +1,4 @@
 mod Automated
-pub mod Silence
 pub mod Idling
 pub mod InputLaws
 pub mod LevelLaws

@@ -105,7 +105,7 @@ impl Bench {
     {
         let place = site.place();
         self.take_input(blocks, site, 0, site.channels());
-        if is_silent(&self.heard) {
+        if self.heard.is_silent() {
             blocks[place].silence();
             return;
         }
@@ -244,16 +244,6 @@ fn render_buffer(blocks: &mut [Block], site: &Site)
     match sounding(quantum.world, site.end.node, site.near(), quantum.first) {
         Some(source) => block.play(&source, quantum.first),
         None => block.silence(),
-    }
-}
-
-// Whether a block is seen at once to be silent: what moves is not looked at.
-pub(crate) fn is_silent(block: &Block) -> bool
-    ensures { IsTrue result → (lane m : ℕ) → lane < block.now.lanes → m < block.now.frames → at block.now lane m ≡ pos 0 }
-{
-    match block.held() {
-        Held::Steady(held) => held.iter().all(|value| *value == 0),
-        Held::Moving(_) => false,
     }
 }
 

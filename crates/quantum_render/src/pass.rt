@@ -19,8 +19,9 @@ use crate::rest::is_marked;
 use crate::site::Quantum;
 use quantum_blocks::{Block, hush};
 
-// Renders all ends: the muted ones are silent, and the others are rendered along the order, each
-// from the blocks of those before it, but for those that are idle. A causal node that no end of the order has hears silence.
+// Renders all ends: the muted ones are silent. The others are rendered along the order, each from the
+// blocks of those before it, but for those that are idle. A causal node that no end of the order has
+// hears silence.
 pub(crate) fn render_quantum<'a>(
     blocks: &mut [Block],
     bench: &mut Bench,

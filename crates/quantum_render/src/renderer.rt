@@ -192,7 +192,7 @@ impl Renderer {
         ensures out { self.new.out ≡ self.old.out }
     {
         let counts = self.counts.as_slice();
-        self.rest.end(counts.len())?;
+        self.rest.make_room(counts.len())?;
         fit_blocks(self.alloc, &mut self.blocks, world, counts)?;
         self.memory.causal.grow(counts)?;
         self.memory.delays.grow(counts)
@@ -202,8 +202,9 @@ impl Renderer {
     /// `counts` and `grow`, where no parameter and no source was edited since the last one. Returns whether
     /// each end has as many channels as before; where one has not, those have to be called. It takes no memory.
     ///
-    /// It looks at those ends alone whose channels hang on the time, at no connection of the graph, and
-    /// in each timeline that goes on at no more events than their number has binary digits.
+    /// In most quanta it looks at those ends alone whose channels hang on the time. Once in 32 quanta it looks at
+    /// each end and each connection for what is idle. In each timeline that goes on it looks at no more events
+    /// than their number has binary digits.
     pub fn again<L: Ledger>(&mut self, world: &World, first: u64, steps: &mut Steps<L>) -> bool
         requires valid { IsValid world.now }
         requires spec { world.now.spec ≡ self.old.spec }

@@ -13,7 +13,6 @@ ghost use Rattle.quantum_render.specs.Plans.{IsPlan};
 ghost use Rattle.quantum_render.specs.Idle.{IsMarked, IsUnheard, IsQuiet, IsIdle, AreIdle};
 
 use crate::counting::{Census, has_count};
-use crate::kinds::is_silent;
 use conn_graph::Edge;
 use node_table::Kind;
 use quantum_blocks::{Block, near_of, play_place, reader, slot};
@@ -51,8 +50,8 @@ impl Rest {
         }
     }
 
-    // Nothing is known to be idle any more. Takes the memory for so many marks.
-    pub(crate) fn end(&mut self, places: usize) -> Result<(), NoMemory>
+    // Takes the memory for so many marks. Nothing is known to be idle any more.
+    pub(crate) fn make_room(&mut self, places: usize) -> Result<(), NoMemory>
         ensures { self.new.until ≡ 0 }
     {
         self.wake();
@@ -149,7 +148,7 @@ fn is_idle(
     requires fit { AreFit census.now.world.now counts.now blocks.now }
     ensures { IsTrue result → IsIdle census.now.world.now counts.now census.now.first until marks.now blocks.now end }
 {
-    if !is_silent(&blocks[slot(end)]) {
+    if !blocks[slot(end)].is_silent() {
         return false;
     }
     let into = census.into.part(end.node.0 as usize);

@@ -1,5 +1,5 @@
 -- A renderer stays settled in a world through what a quantum changes.
-use Rattle.std.proofs.Common.{ℕ, ◌≡◌, ◌+◌, ◌<◌, ◌*◌, List, [], ◌∷◌, length, map, slice_index_or, Bool, true, false, cond, Option, Some, None, inl, inr, refl, sym, ◌∙◌, ap, arith, subst}
+use Rattle.std.proofs.Common.{ℕ, zero, suc, ◌≡◌, ◌+◌, ◌<◌, ◌*◌, List, [], ◌∷◌, length, map, slice_index_or, Bool, true, false, cond, Option, Some, None, inl, inr, refl, sym, ◌∙◌, ap, arith, subst}
 use Rattle.std.specs.Prelude.{◌⊎◌, option_map, option_and_then, slice_get, nat_lt, not, ◌==◌, if◌then◌else◌}
 use Rattle.std.specs.List.{position, position_or_len}
 use Rattle.std.specs.Option.{option_map_or}
@@ -10,7 +10,7 @@ use Rattle.wa_base.specs.declared.graph_names.ParamId.{ParamId}
 use Rattle.law_base.specs.Members.{IsIn}
 use Rattle.meaning.specs.declared.params.Param.{Param}
 use Rattle.meaning.specs.Automation.{automated, slot_set}
-use Rattle.automation.specs.Levels.{LevelView, HasRoom, Keeps, level_of}
+use Rattle.automation.specs.Levels.{LevelView, HasRoom, Keeps, KeepsUntil, StandsUntil, level_of}
 use Rattle.automation.specs.Ready.{AutomationView, AreRunning, IsHeld, param_of}
 use Rattle.wa_base.specs.declared.graph_names.End.{End}
 use Rattle.node_table.specs.declared.rows.Channels.{Channels}
@@ -51,6 +51,12 @@ room_moved R first (q ∷ qs) each p (inr later) = room_moved R first qs (λ x i
 keeps_moved : (q from first : ℕ) (level : LevelView) (p : Param) → Keeps q from level p → Keeps q from level (slot_set first p)
 keeps_moved q from first level p keeps = λ later up. let is = keeps later up in record { room = is.room; rate = is.rate; values = is.values }
 
+-- what holds of a parameter in its place, and lasts when its slot changes
+place_moved : (P : Param → Type 0) (first : ℕ) → ((p : Param) → P p → P (slot_set first p)) → (ps : List Param) (i : ℕ) (d : Param) → P (slice_index_or ps i d) → P (slice_index_or (map (slot_set first) ps) i d)
+place_moved P first lasts [] i d is = is
+place_moved P first lasts (p ∷ ps) zero d is = lasts p is
+place_moved P first lasts (p ∷ ps) (suc i) d is = place_moved P first lasts ps i d is
+
 held_moved : (ps : List Param) (from first : ℕ) (a : AutomationView) → IsHeld ps from a → IsHeld (map (slot_set first) ps) from a
 held_moved ps from first a is =
     let long = length-map ps (slot_set first) in
@@ -64,6 +70,11 @@ held_moved ps from first a is =
             | inl runs ↦ inl runs
             | inr keeps ↦ inr (keeps_moved a.quantum from first (level_of a.levels (slice_index_or ps i d).id.node.0) (slice_index_or ps i d) keeps)
           ]);
+      rests = λ r runs. let old = is.rests r runs in record {
+        level = λ d. place_moved (λ (p : Param). KeepsUntil a.quantum from r.until (level_of a.levels p.id.node.0) p) first
+            (λ p keeps later up within. let own = keeps later up within in record { room = own.room; rate = own.rate; values = own.values }) ps r.param d (old.level d);
+        place = λ d. place_moved (λ (p : Param). StandsUntil a.quantum from r.until r.cursor p) first (λ p stands. stands) ps r.param d (old.place d);
+      };
     }
 
 -- ---- a world with the context, the nodes and the connections of another one

@@ -1,40 +1,23 @@
 -- What an observer is shown, quantum after quantum.
-use Rattle.std.proofs.Common.{ℕ, suc, ◌≡◌, ◌≤◌, ◌*◌, ◌+◌, ◌∷◌, ◌++◌, [], List, length, map, Bool, true, false, refl, sym, ap, ◌∙◌, subst, arith, length-append}
-use Rattle.std.specs.Prelude.{IsTrue, if◌then◌else◌, unwrap_or}
+use Rattle.std.proofs.Common.{ℕ, ◌≡◌, ◌≤◌, ◌*◌, ◌+◌, ◌∷◌, ◌++◌, [], List, length, map, Bool, false, sym, ap, ◌∙◌, arith, length-append}
+use Rattle.std.specs.Prelude.{IsTrue}
 use Rattle.std.proofs.lemmas.List.{length-map, map-append}
 use Rattle.std.proofs.Math.Nat.{mul-le-mul_right}
 use Rattle.wa_base.specs.Contexts.{IsSupported, quantum_of}
 use Rattle.ctx_state.specs.Context.{next, turn_of}
 use Rattle.ctx_state.specs.declared.context.Turn.TheVariants.{Went}
-use Rattle.transcript.specs.declared.lines.Line.TheVariants as line
-use Rattle.name_book.specs.Book.{first_name_of}
-use Rattle.control_msgs.specs.Messages.{ends_by, marked, after}
-use Rattle.meaning.specs.declared.scheds.Play.{Play}
+use Rattle.control_msgs.specs.Messages.{marked, after}
 use Rattle.meaning.specs.declared.world.World.{World}
 use Rattle.meaning.specs.Lists.{listed}
-use Rattle.meaning.specs.Plays.{rescheduled}
 use Rattle.meaning.specs.World.{sounding}
 use Rattle.meaning.proofs.Sounding.{slots_unheard}
 use Rattle.control_side.specs.Turns.{ended_lines}
+use Rattle.control_side.proofs.Open.{none_marked, none_told}
 use Rattle.session.specs.Session.{Told, after_turn, lines_after, promise_lines}
 use Rattle.session.specs.Observing.{ComesNext}
 use Rattle.session.specs.View.{SessionView, Stands}
 
 -- ---- a quantum in which no source ends
-
--- where no line says that a source ended, none is marked
-none_marked : (names : List (ℕ × List ℕ)) (now : ℕ) (plays : List Play) → length (ended_lines names now plays) ≡ 0 → map (marked now) plays ≡ plays
-none_marked names now [] none = refl
-none_marked names now (play ∷ plays) none = one_marked names now play plays (ends_by now play.sched) refl none (none_marked names now plays)
-  where
-    one_marked : (names : List (ℕ × List ℕ)) (now : ℕ) (play : Play) (plays : List Play) (ends : Bool) → ends_by now play.sched ≡ ends → length (ended_lines names now (play ∷ plays)) ≡ 0
-        → (length (ended_lines names now plays) ≡ 0 → map (marked now) plays ≡ plays) → map (marked now) (play ∷ plays) ≡ play ∷ plays
-    one_marked names now play plays true is none rest =
-        let wrong : suc (length (ended_lines names now plays)) ≡ 0 = subst (λ b. length (if b then line.Ended play.id (unwrap_or (first_name_of names play.id.0) []) ∷ ended_lines names now plays else ended_lines names now plays) ≡ 0) is none in
-        absurd (omega (arith, wrong))
-    one_marked names now play plays false is none rest =
-        let others : length (ended_lines names now plays) ≡ 0 = subst (λ b. length (if b then line.Ended play.id (unwrap_or (first_name_of names play.id.0) []) ∷ ended_lines names now plays else ended_lines names now plays) ≡ 0) is none in
-        ap (λ b. (if b then rescheduled play (record play.sched { ended = true }) else play) ∷ map (marked now) plays) is ∙ ap (λ ps. play ∷ ps) (rest others)
 
 -- a world whose sources stay as they are sounds as before
 same_after : (first now : ℕ) (w : World) → map (marked now) w.scheds.items ≡ w.scheds.items → sounding (after first now w) ≡ sounding w
@@ -47,7 +30,7 @@ quiet_turn old new is went quiet =
     let both : length (lines_after old.machine) ≡ length (ended_lines old.machine.first_names (next old.machine.context) old.machine.world.scheds.items) + length (promise_lines (turn_of old.machine.context)) =
     length-append (ended_lines old.machine.first_names (next old.machine.context) old.machine.world.scheds.items) (promise_lines (turn_of old.machine.context)) in
     ap (λ t. sounding t.machine.world) is
-    ∙ same_after old.machine.context.time (next old.machine.context) old.machine.world (none_marked old.machine.first_names (next old.machine.context) old.machine.world.scheds.items (omega (arith, lines, both, quiet)))
+    ∙ same_after old.machine.context.time (next old.machine.context) old.machine.world (none_marked (next old.machine.context) old.machine.world.scheds.items (none_told old.machine.first_names (next old.machine.context) old.machine.world.scheds.items (omega (arith, lines, both, quiet))))
 
 -- ---- a tape
 

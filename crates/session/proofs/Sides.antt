@@ -5,7 +5,7 @@ use Rattle.wa_base.specs.Contexts.{quantum_of}
 use Rattle.wa_base.specs.declared.contexts.ContextSpec.{ContextSpec}
 use Rattle.ctx_state.specs.Context.{next}
 use Rattle.control_msgs.specs.declared.message.Message.{Message}
-use Rattle.control_msgs.specs.declared.message.Message.TheVariants.{Change as of_change, Slots, Ended}
+use Rattle.control_msgs.specs.declared.message.Message.TheVariants.{Change as of_change, Slots}
 use Rattle.control_msgs.specs.Messages.{ended_marked, after_message}
 use Rattle.meaning.specs.declared.change.Change.{Change}
 use Rattle.meaning.specs.declared.world.World.{World}
@@ -15,7 +15,7 @@ use Rattle.quantum_render.specs.Stands.{RendererView}
 use Rattle.control_side.specs.Machine.{Machine, caught_up, world_caught_up}
 use Rattle.session.specs.Rows.{samples_of}
 use Rattle.control_side.specs.Step.{KeepsTime, Sends}
-use Rattle.session.specs.View.{SideView, sent, IsAt, KeepsUp, Follows, MakesRoom, Gets, CatchesUp, Hears, GoesOn, Waits, Renders}
+use Rattle.session.specs.View.{SideView, sent, IsAt, KeepsUp, Follows, MakesRoom, Gets, Marks, CatchesUp, Hears, GoesOn, Waits, Renders}
 
 -- ---- steps, where there is a side
 
@@ -151,18 +151,18 @@ pub record Turned (first last : ℕ) (old_samples new_samples : List ℤ) (old n
       → old_samples ≡ samples_of tape (sent old).spec → new_samples ≡ samples_of (tape ++ sent old ∷ []) (sent old).spec
 
 module _ (first last : ℕ) (samples new_samples : List ℤ) where
-  turned_of : (x y z v : SideView) → MakesRoom 1 x y → GoesOn first samples new_samples y z → Gets (Ended last) z v → Turned first last samples new_samples x v
+  turned_of : (x y z v : SideView) → MakesRoom 1 x y → GoesOn first samples new_samples y z → Marks last z v → Turned first last samples new_samples x v
   turned_of x y z v made goes ended =
       let goes_on : GoesOn first samples new_samples (record x { room = y.room }) z = subst (λ (s : SideView). GoesOn first samples new_samples s z) made.same goes in
       let renderer : z.renderer ≡ v.renderer = sym ended.renderer in
       record {
-        world = ended.world ∙ ap (λ w. after_message w (Ended last)) goes_on.world;
+        world = ended.world ∙ ap (ended_marked last) goes_on.world;
         at = subst (IsAt (sent x).spec (first + quantum_of (sent x).spec)) renderer goes_on.at;
         renders = λ tape renders regular. subst (Renders (tape ++ sent x ∷ [])) renderer (goes_on.renders tape renders regular);
         samples = goes_on.samples;
       }
 
-  pub turned_sides : (a b c d : Option SideView) → Follows (MakesRoom 1) a b → Follows (GoesOn first samples new_samples) b c → Follows (Gets (Ended last)) c d → Follows (Turned first last samples new_samples) a d
+  pub turned_sides : (a b c d : Option SideView) → Follows (MakesRoom 1) a b → Follows (GoesOn first samples new_samples) b c → Follows (Marks last) c d → Follows (Turned first last samples new_samples) a d
   turned_sides None None None None made goes ended = tt
   turned_sides (Some x) (Some y) (Some z) (Some v) made goes ended = turned_of x y z v made goes ended
   turned_sides None (Some y) c d made goes ended = absurd made

@@ -4,13 +4,14 @@ use Rattle.std.specs.Prelude.{IfSome, IsTrue, IsSome, is_some, option_map}
 use Rattle.wa_base.specs.Contexts.{quantum_of}
 use Rattle.wa_base.specs.declared.contexts.ContextSpec.{ContextSpec}
 use Rattle.ctx_state.specs.Context.{next}
+use Rattle.control_msgs.specs.Messages.{ended_marked}
 use Rattle.control_msgs.specs.declared.message.Message.TheVariants.{Ended}
 use Rattle.meaning.specs.declared.world.World.{World}
 use Rattle.meaning.specs.Validity.{IsValid}
 use Rattle.transcript.specs.declared.lines.Line.{Line}
 use Rattle.control_side.specs.Machine.{Machine, caught_up, world_caught_up}
 use Rattle.control_side.specs.Turns.{gone_on}
-use Rattle.session.specs.View.{SessionView, SideView, Stands, KeepsUp, HasRoom, Follows, MakesRoom, Gets, GoesOn, sent}
+use Rattle.session.specs.View.{SessionView, SideView, Stands, KeepsUp, HasRoom, Follows, MakesRoom, Gets, Marks, GoesOn, sent}
 use Rattle.session.proofs.Sides.{Turned, turned_sides, turned_keeps, carried, same_audio, long_at, room_kept}
 use Rattle.session.proofs.Standing.{turn_stands}
 use Rattle.session.proofs.CatchingUp.{caught_up_sounds, caught_up_valid, caught_up_after}
@@ -23,7 +24,7 @@ seen machine lines samples side = record { told = record { machine = machine; li
 module _ (old new : Machine) (samples lent new_samples : List ℤ) (a b c e : Option SideView) (first : ℕ)
     (spec : ContextSpec) (of_context : spec ≡ old.context.spec) (of_world : spec ≡ old.world.spec)
     (is_first : first ≡ old.context.time) (machine : new ≡ gone_on old) (is_lent : lent ≡ samples)
-    (made : Follows (MakesRoom 1) a b) (goes : Follows (GoesOn first lent new_samples) b c) (ended : Follows (Gets (Ended (first + quantum_of spec))) c e) where
+    (made : Follows (MakesRoom 1) a b) (goes : Follows (GoesOn first lent new_samples) b c) (ended : Follows (Marks (first + quantum_of spec)) c e) where
   whole : old.context.spec ≡ old.world.spec
   whole = sym of_context ∙ of_world
 
@@ -61,3 +62,26 @@ long_room machine samples lent None None is_lent begun room keeps made = tt
 long_room machine samples lent (Some x) (Some y) is_lent begun room keeps made = long_at machine lent y (ap length is_lent ∙ room refl begun) (room_kept machine 1 x y made keeps)
 long_room machine samples lent None (Some y) is_lent begun room keeps made = absurd made
 long_room machine samples lent (Some x) None is_lent begun room keeps made = absurd made
+
+-- ---- the sources that end
+
+pub marks_sent : (next : ℕ) (a b : Option SideView) → Follows (Gets (Ended next)) a b → Follows (Marks next) a b
+marks_sent next None None gets = tt
+marks_sent next (Some x) (Some y) gets = record { world = gets.world; renderer = gets.renderer }
+marks_sent next None (Some y) gets = absurd gets
+marks_sent next (Some x) None gets = absurd gets
+
+-- where none ends, nothing is to be marked
+pub marks_none : (next : ℕ) (a : Option SideView) → IfSome a (λ s. ended_marked next (sent s) ≡ sent s) → Follows (Marks next) a a
+marks_none next None same = tt
+marks_none next (Some x) same = record { world = sym same; renderer = refl }
+
+pub none_ends : (m : Machine) (next first : ℕ) (lent new_samples : List ℤ) (a b c : Option SideView) → Follows (MakesRoom 1) a b → Follows (GoesOn first lent new_samples) b c → IfSome a (KeepsUp m)
+    → ended_marked next m.world ≡ m.world → IfSome c (λ s. ended_marked next (sent s) ≡ sent s)
+none_ends m next first lent new_samples None None None made goes keeps same = tt
+none_ends m next first lent new_samples (Some x) (Some y) (Some z) made goes keeps same =
+    subst (λ (w : World). ended_marked next w ≡ w) (sym (goes.world ∙ ap sent made.same ∙ keeps.world)) same
+none_ends m next first lent new_samples None (Some y) c made goes keeps same = absurd made
+none_ends m next first lent new_samples (Some x) None c made goes keeps same = absurd made
+none_ends m next first lent new_samples None None (Some z) made goes keeps same = absurd goes
+none_ends m next first lent new_samples (Some x) (Some y) None made goes keeps same = absurd goes

@@ -8,7 +8,7 @@ use Rattle.meaning.specs.World.{sounding}
 use Rattle.meaning.specs.Validity.{IsValid}
 use Rattle.ctx_state.specs.Context.{is_closed}
 use Rattle.control_msgs.specs.declared.message.Message.{Message}
-use Rattle.control_msgs.specs.Messages.{after_message, after_messages, AreAcceptedBy}
+use Rattle.control_msgs.specs.Messages.{after_message, after_messages, ended_marked, AreAcceptedBy}
 use Rattle.meaning.specs.Worlds.{IsRegular}
 use Rattle.conn_graph.specs.Walks.{GraphView}
 use Rattle.quantum_render.specs.Plans.{PlanView, IsPlanned, IsUnedited}
@@ -101,6 +101,11 @@ pub record Gets (message : Message) (old new : SideView) : Type 0 where
   pub world : sent new ≡ after_message (sent old) message
   pub renderer : new.renderer ≡ old.renderer
   pub room : new.room + 1 ≡ old.room
+
+-- it marks the sources that end before the quantum that begins at a frame
+pub record Marks (next : ℕ) (old new : SideView) : Type 0 where
+  pub world : sent new ≡ ended_marked next (sent old)
+  pub renderer : new.renderer ≡ old.renderer
 
 -- it sets the slots that are left to be set
 pub record CatchesUp (behind : Option ℕ) (old new : SideView) : Type 0 where

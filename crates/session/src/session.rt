@@ -4,7 +4,7 @@ ghost use Rattle.io_edge.specs.Paths.{Paths, SamePaths};
 ghost use Rattle.script_ast.specs.Operations.{IsInRange};
 ghost use Rattle.ctx_state.specs.Context.{IsInState, turn_of, is_closed};
 ghost use Rattle.wa_base.specs.Contexts.{IsQuantumSize, IsSupported, quantum_of};
-ghost use Rattle.control_msgs.specs.Messages.{IsAcceptedBy};
+ghost use Rattle.control_msgs.specs.Messages.{IsAcceptedBy, ended_marked};
 ghost use Rattle.meaning.specs.Changes.{Accepts};
 ghost use Rattle.session.specs.Session.{after_call, after_turn, end_of, lines_at_end};
 ghost use Rattle.wa_base.specs.Contexts.{is_supported as supports};
@@ -12,7 +12,7 @@ ghost use Rattle.control_side.specs.Assets.{IsHeld};
 ghost use Rattle.control_side.specs.Step.{is_start, is_decode, KeepsTime, RunsOnceStarted};
 ghost use Rattle.control_side.specs.Machine.{caught_up};
 ghost use Rattle.control_side.specs.Turns.{IsTurned};
-ghost use Rattle.session.specs.View.{IsFirst, IsAsBefore, Stands, Follows, MakesRoom, Gets, CatchesUp, Hears, GoesOn, Waits, IsAt, sent};
+ghost use Rattle.session.specs.View.{IsFirst, IsAsBefore, Stands, Follows, MakesRoom, Gets, Marks, CatchesUp, Hears, GoesOn, Waits, IsAt, sent};
 ghost use Rattle.meaning.specs.declared.world.World.{World as a_world};
 ghost use Rattle.meaning.specs.World.{sounding};
 ghost use Rattle.meaning.specs.Worlds.{first_world};
@@ -156,9 +156,10 @@ impl Session {
         render(&mut self.side, first, self.samples.as_mut_slice())?;
         let turn = self.control.turn();
         self.behind = Some(first);
-        post(
+        post_ended(
             &mut self.side,
-            Message::Ended(first + u64::from(spec.quantum)),
+            first + u64::from(spec.quantum),
+            !ended.is_empty(),
         );
         self.lines.append_reserved(ended);
         match turn {
@@ -326,6 +327,18 @@ fn post(side: &mut Option<RenderSide>, message: Message)
 {
     if let Some(side) = side {
         side.post(message);
+    }
+}
+
+// Has the side that renders mark the sources that end before the quantum that begins at `next`, where
+// one does.
+fn post_ended(side: &mut Option<RenderSide>, next: u64, any: bool)
+    requires room { IfSome side.old (λ s. 0 < s.room) }
+    requires none { any ≡ false → IfSome side.old (λ s. ended_marked next (sent s) ≡ sent s) }
+    ensures { Follows (Marks next) side.old side.new }
+{
+    if any {
+        post(side, Message::Ended(next));
     }
 }
 

@@ -35,8 +35,8 @@ fn is_drawn_as_found<L: Ledger>(
     ensures length { length out.new ≡ length out.old }
     ensures stands { cursor.new ≡ place_at (first + length out.new) line.now.events }
 {
-    if let Some(value) = cursor.draw(out, first, line, steps) {
-        out.fill(value);
+    if let Some(stay) = cursor.draw(out, first, line, steps) {
+        out.fill(stay.value);
     }
     is_as_found(out, first, line, steps)
 }

@@ -1,4 +1,5 @@
 use Rattle.std.proofs.Common.{ℕ, List, ◌≡◌, ◌+◌, ◌∷◌, ◌++◌, [], map, inl, inr, ap, sym, ◌∙◌, arith, subst}
+use Rattle.std.specs.Prelude.{◌⊎◌}
 use Rattle.std.proofs.lemmas.List.{map_push}
 use Rattle.std.proofs.lemmas.List.Sums.{sum_by_more, sum_by_more_le, sum_by-take-le}
 use Rattle.law_base.specs.Members.{IsIn}
@@ -26,9 +27,10 @@ loop-i-preserved g c =
     let inv = c.loop-i.invariant in
     let params = c.args.params.now in
     let p : Param = c.index-params-i.result in
-    let y : RunningView = record { param = i; cursor = c.reseek.new.self } in
+    let y : RunningView = record { param = i; cursor = c.reseek.new.self; until = 0 } in
     let items = c.loop-i.running.items in
     let new = c.in_ok-push.ensures.items in
+    let parts : (r : RunningView) → IsIn r c.push.new.self.items → IsIn r items ⊎ IsIn r (y ∷ []) = λ r is. IsIn-append items (y ∷ []) r (subst (λ (rs : List RunningView). IsIn r rs) {y = items ++ y ∷ []} new is) in
     let places : map param_of c.push.new.self.items ≡ map param_of items ++ i ∷ [] = ap (map param_of) {y = items ++ y ∷ []} new ∙ map_push param_of items y in
     record {
       running = subst (RiseWithin 0 (i + 1)) (sym places) (rise_more 0 i (map param_of items) (omega arith) inv.running);
@@ -36,10 +38,17 @@ loop-i-preserved g c =
         | inl before ↦ IsIn-append_first (map param_of items) (i ∷ []) j (inv.all j before)
         | inr same ↦ IsIn-append_second (map param_of items) (i ∷ []) j (inl same)
       ]);
-      stands = λ r is. elim (IsIn-append items (y ∷ []) r (subst (λ (rs : List RunningView). IsIn r rs) new is)) [
+      stands = λ r is. elim (parts r is) [
         | inl old ↦ inv.stands r old
         | inr own ↦ elim own [
           | inl same ↦ subst (Stands params c.args.first) (sym same) (stands_there params c.args.first y p c.loop-i-test.true c.index-params-i.is c.reseek.ensures.stands)
+          | inr none ↦ absurd none
+        ]
+      ];
+      unknown = λ r is. elim (parts r is) [
+        | inl old ↦ inv.unknown r old
+        | inr own ↦ elim own [
+          | inl same ↦ ap (λ (x : RunningView). x.until) same
           | inr none ↦ absurd none
         ]
       ];

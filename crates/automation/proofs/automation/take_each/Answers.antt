@@ -1,16 +1,17 @@
-use Rattle.std.proofs.Common.{rules, ap₂, ℕ, ◌≡◌, ◌≤◌, ◌<◌, ◌+◌, ◌++◌, ◌∷◌, [], List, length, map, take, drop, slice_index_or, slice_set, inl, inr, refl, ap, sym, ◌∙◌, arith, subst}
-use Rattle.std.proofs.lemmas.List.{get_or_default, get_or-set_other, length-map, length-set, map_push, take_more_set}
+use Rattle.std.proofs.Common.{rules, ap₂, ℕ, ◌≡◌, ◌≤◌, ◌<◌, ◌+◌, ◌++◌, ◌∷◌, [], List, length, map, take, drop, slice_index_or, inl, inr, refl, ap, sym, ◌∙◌, arith, subst}
+use Rattle.std.proofs.lemmas.List.{get_or-set_other, length-map, map_push, take_more_set}
 use Rattle.std.proofs.lemmas.List.Sums.{sum_by_more, sum_by-take-le}
 use Rattle.std.specs.List.{sum_by}
 use Rattle.law_base.specs.Members.{IsIn}
+use Rattle.law_base.proofs.Members.{IsIn-append, IsIn-append_first, IsIn-append_second}
 use Rattle.meaning.specs.declared.params.Param.{Param}
-use Rattle.automation.specs.Levels.{HasRoom, IsLevelOf, no_level, level_of}
-use Rattle.automation.specs.Ready.{RiseWithin, RunningView, looks_at, param_of, place_in}
-use Rattle.automation.proofs.Places.{place_of, in_list, room_stays}
-use Rattle.automation.proofs.Running.{cost_at, cost_is, cost_running, next_is, next_low, place_low, rise_done, rise_on, rise_past}
-use Rattle.automation.proofs.Taken.{IsTaken, moves_on, none_ahead, stays}
+use Rattle.automation.specs.Levels.{HasRoom, IsLevelOf, level_of}
+use Rattle.automation.specs.Ready.{Rests, RiseWithin, RunningView, looks_at, param_of}
+use Rattle.automation.proofs.Places.{place_of, in_list}
+use Rattle.automation.proofs.Running.{also_left, cost_at, cost_running, first_left, front_apart, front_low, left_apart, left_low, next_is, next_low, rise_done, rise_on, rise_past}
+use Rattle.automation.proofs.Taken.{IsTaken, moves_on, none_ahead, rests_on, room_kept, stays}
 use Rattle.automation.proofs.automation.take_each.Goals as goal
-use Rattle.automation.proofs.automation.take_each.Goals.{then-not-stays, else-not-stays}
+use Rattle.automation.proofs.automation.take_each.Goals.{then-take, else-take}
 
 pub loop-k-init : goal.loop-k-init
 loop-k-init g c = record {
@@ -18,6 +19,7 @@ loop-k-init g c = record {
   ahead = λ j r low. refl;
   rise = c.requires.ready.held.running;
   room = c.requires.ready.held.room;
+  rests = c.requires.ready.held.rests;
   taken = λ i d low. elim (c.requires.ready.held.others i d low) [
     | inl runs ↦ inl runs
     | inr keeps ↦ inr (inr keeps)
@@ -25,35 +27,25 @@ loop-k-init g c = record {
   cost = search rules;
 }
 
-pub offset_bounds-params-one-inside : goal.offset_bounds-params-one-inside
-offset_bounds-params-one-inside g c = let low = next_low c.args.running.now c.loop-k.running c.loop-k.k c.index-running-k.result c.loop-k-test.true c.index-running-k.is (c.loop-k.invariant.ahead c.loop-k.k c.index-running-k.result (omega arith)) c.one.inside.param (ap param_of c.one.view_is) (length c.args.params.now) c.requires.ready.held.running in search rules
+pub take-requires-clause-param : goal.take-requires-clause-param
+take-requires-clause-param g c =
+    let r : RunningView = c.index-running-k.result in
+    next_low c.args.running.now c.loop-k.running c.loop-k.k r c.loop-k-test.true c.index-running-k.is (c.loop-k.invariant.ahead c.loop-k.k r (omega arith)) r.param refl (length c.args.params.now) c.requires.ready.held.running
 
-pub bounds-params-one-inside : goal.bounds-params-one-inside
-bounds-params-one-inside g c = next_low c.args.running.now c.loop-k.running c.loop-k.k c.index-running-k.result c.loop-k-test.true c.index-running-k.is (c.loop-k.invariant.ahead c.loop-k.k c.index-running-k.result (omega arith)) c.one.inside.param (ap param_of c.one.view_is) (length c.args.params.now) c.requires.ready.held.running
-
-pub bounds-levels-node : goal.bounds-levels-node
-bounds-levels-node g c =
-    let params = c.args.params.now in
-    let p : Param = c.index-params-one.result in
-    let low = next_low c.args.running.now c.loop-k.running c.loop-k.k c.index-running-k.result c.loop-k-test.true c.index-running-k.is (c.loop-k.invariant.ahead c.loop-k.k c.index-running-k.result (omega arith)) c.one.inside.param (ap param_of c.one.view_is) (length params) c.requires.ready.held.running in
-    (c.loop-k.invariant.room p (subst (λ (x : Param). IsIn x params) (sym c.index-params-one.is) (in_list params _ p low))).0
-
-pub take-stays-requires-clause-room : goal.take-stays-requires-clause-room
-take-stays-requires-clause-room g c =
-    let params = c.args.params.now in
-    let p : Param = c.index-params-one.result in
-    let low = next_low c.args.running.now c.loop-k.running c.loop-k.k c.index-running-k.result c.loop-k-test.true c.index-running-k.is (c.loop-k.invariant.ahead c.loop-k.k c.index-running-k.result (omega arith)) c.one.inside.param (ap param_of c.one.view_is) (length params) c.requires.ready.held.running in
-    let room = c.loop-k.invariant.room p (subst (λ (x : Param). IsIn x params) (sym c.index-params-one.is) (in_list params _ p low)) in
-    subst (HasRoom c.args.frames) (get_or_default c.loop-k.levels p.id.node.0 no_level c.index-levels-node.result room.0) room.1
-
-pub take-stays-requires-clause-stands : goal.take-stays-requires-clause-stands
-take-stays-requires-clause-stands g c =
+pub take-requires-clause-stands : goal.take-requires-clause-stands
+take-requires-clause-stands g c =
     let k = c.loop-k.k in
     let r : RunningView = c.index-running-k.result in
-    let p : Param = c.index-params-one.result in
-    let own : slice_index_or c.args.running.now k r ≡ record { param = c.one.inside.param; cursor = c.one.inside.cursor } = sym (c.loop-k.invariant.ahead k r (omega arith)) ∙ sym c.index-running-k.is ∙ sym c.one.view_is in
-    c.requires.ready.stands (record { param = c.one.inside.param; cursor = c.one.inside.cursor }) (subst (λ (x : RunningView). IsIn x c.args.running.now) own (in_list c.args.running.now k r c.loop-k-test.true)) p
-    ∙ ap (place_in c.args.first) (sym c.index-params-one.is)
+    let was = c.index-running-k.is ∙ c.loop-k.invariant.ahead k r (omega arith) in
+    c.requires.ready.stands r (subst (λ (x : RunningView). IsIn x c.args.running.now) (sym was) (in_list c.args.running.now k r c.loop-k-test.true))
+
+pub take-requires-clause-rests : goal.take-requires-clause-rests
+take-requires-clause-rests g c =
+    let k = c.loop-k.k in
+    let old = c.args.running.now in
+    let r : RunningView = c.index-running-k.result in
+    let was = c.index-running-k.is ∙ c.loop-k.invariant.ahead k r (omega arith) in
+    c.loop-k.invariant.rests r (IsIn-append_second (take c.loop-k.moving c.loop-k.running) (drop k old) r (subst (λ (x : RunningView). IsIn x (drop k old)) (sym was) (first_left old k r c.loop-k-test.true)))
 
 pub loop-k-preserved : goal.loop-k-preserved
 loop-k-preserved g c =
@@ -62,53 +54,79 @@ loop-k-preserved g c =
     let q = c.args.frames in
     let first = c.args.first in
     let params = c.args.params.now in
+    let count = length params in
     let old = c.args.running.now in
     let all : List ℕ = map param_of old in
     let running = c.loop-k.running in
     let moving = c.loop-k.moving in
-    let done : List ℕ = map param_of (take moving running) in
+    let front : List RunningView = take moving running in
+    let left : List RunningView = drop (k + 1) old in
     let r : RunningView = c.index-running-k.result in
-    let p : Param = c.index-params-one.result in
-    let i : ℕ = c.one.inside.param in
-    let y : RunningView = record { param = i; cursor = c.take-stays.new.cursor } in
-    let place : (d : ℕ) → slice_index_or all k d ≡ i = next_is old running k r c.loop-k-test.true c.index-running-k.is (inv.ahead k r (omega arith)) i (ap param_of c.one.view_is) in
+    let i : ℕ = r.param in
+    let y : RunningView = c.take.new.self in
+    let levels = c.loop-k.levels in
+    let new = c.take.new.levels in
+    let takes = c.take.ensures.level in
+    let order = c.requires.nodes.1.order in
+    let was = inv.ahead k r (omega arith) in
+    let place : (d : ℕ) → slice_index_or all k d ≡ i = next_is old running k r c.loop-k-test.true c.index-running-k.is was i refl in
     let below : k < length all = omega (arith, c.loop-k-test.true, length-map old param_of) in
-    let low : i < length params = place_low old k i c.loop-k-test.true (place 0) (length params) c.requires.ready.held.running in
-    let named : (d : Param) → slice_index_or params i d ≡ p = λ d. get_or_default params i d p low ∙ sym c.index-params-one.is in
-    let room = inv.room p (subst (λ (x : Param). IsIn x params) (sym c.index-params-one.is) (in_list params i p low)) in
-    let new_room : (x : Param) → IsIn x params → (x.id.node.0 < length (slice_set c.loop-k.levels p.id.node.0 c.take-stays.new.self)) × HasRoom q (level_of (slice_set c.loop-k.levels p.id.node.0 c.take-stays.new.self) x.id.node.0) = λ x is.
+    let low : i < count = next_low old running k r c.loop-k-test.true c.index-running-k.is was i refl count c.requires.ready.held.running in
+    let new_room : (x : Param) → IsIn x params → (x.id.node.0 < length new) × HasRoom q (level_of new x.id.node.0) = λ x is.
     let own = inv.room x is in
-    (omega (arith, own.0, length-set c.loop-k.levels p.id.node.0 c.take-stays.new.self), room_stays q c.loop-k.levels p.id.node.0 c.take-stays.new.self room.0 c.take-stays.ensures.level.room x.id.node.0 own.1) in
-    let new_cost : c.take-stays.new.steps ≤ c.args.steps.now + sum_by (cost_at (looks_at q first) params) (take (k + 1) all) =
+    (omega (arith, own.0, c.take.ensures.length), room_kept q first params order levels new all k i below place low takes x own.1) in
+    let front_rests : (x : RunningView) → IsIn x front → Rests q params first new x = λ x is.
+    rests_on q first params order levels new all k i below place low takes x (front_low count front old k i below (place 0) inv.rise x is) (front_apart count front old k i below (place 0) inv.rise x is)
+    (inv.rests x (IsIn-append_first front (drop k old) x is)) in
+    let left_rests : (x : RunningView) → IsIn x left → Rests q params first new x = λ x is.
+    rests_on q first params order levels new all k i below place low takes x (left_low count front old k i below (place 0) inv.rise x is) (left_apart count front old k i below (place 0) inv.rise x is)
+    (inv.rests x (IsIn-append_second front (drop k old) x (also_left old k x c.loop-k-test.true is))) in
+    let new_cost : c.take.new.steps ≤ c.args.steps.now + sum_by (cost_at (looks_at q first) params) (take (k + 1) all) =
     let more = sum_by_more (cost_at (looks_at q first) params) all k 0 below in
-    let own = ap (cost_at (looks_at q first) params) (place 0) ∙ cost_is (looks_at q first) params i p low c.index-params-one.is in
-    let cost = c.take-stays.ensures.cost in
+    let own = ap (cost_at (looks_at q first) params) (place 0) in
+    let cost = c.take.ensures.cost in
     omega (arith, cost, more, own, inv.cost) in
-    elim c.if-not-stays.branch [
-      | then-not-stays w ↦
+    elim c.if-take.branch [
+      | then-take w ↦
           let within : moving < length running = omega (arith, inv.few, c.loop-k-test.true, c.loop-k.auto.running) in
-          let places : map param_of (take c.if-not-stays.moving c.if-not-stays.running) ≡ done ++ i ∷ [] =
-          ap₂ (λ m (rs : List RunningView). map param_of (take m rs)) w.moving-is w.running-is ∙ ap (map param_of) (take_more_set running moving y within) ∙ map_push param_of (take moving running) y in
+          let runs : take c.if-take.moving c.if-take.running ≡ front ++ y ∷ [] = ap₂ (λ m (rs : List RunningView). take m rs) w.moving-is w.running-is ∙ take_more_set running moving y within in
+          let places : map param_of (take c.if-take.moving c.if-take.running) ≡ map param_of front ++ i ∷ [] =
+          ap (map param_of) runs ∙ map_push param_of front y ∙ ap (λ n. map param_of front ++ n ∷ []) c.take.ensures.param in
           record {
             few = omega (arith, w.moving-is, inv.few);
             ahead = λ j x later.
                 ap (λ (rs : List RunningView). slice_index_or rs j x) w.running-is
                 ∙ get_or-set_other running moving j y x (λ e. let same : j ≡ moving = e in omega (arith, later, same, inv.few)) ∙ inv.ahead j x (omega (arith, later));
-            rise = subst (λ (ns : List ℕ). RiseWithin 0 (length params) (ns ++ drop (k + 1) all)) (sym places) (rise_on (length params) k done all i below (place 0) inv.rise);
+            rise = subst (λ (ns : List ℕ). RiseWithin 0 count (ns ++ drop (k + 1) all)) (sym places) (rise_on count k (map param_of front) all i below (place 0) inv.rise);
             room = new_room;
-            taken = λ j d under. subst (λ (ns : List ℕ). IsTaken q params first (slice_set c.loop-k.levels p.id.node.0 c.take-stays.new.self) all (k + 1) ns j d) (sym places)
-                (moves_on q first params c.requires.nodes.1.order c.loop-k.levels all k i c.take-stays.new.self p below place low named room.0 done c.take-stays.ensures.level j d under (inv.taken j d under));
+            rests = λ x is. elim (IsIn-append (take c.if-take.moving c.if-take.running) left x is) [
+              | inl done ↦ elim (IsIn-append front (y ∷ []) x (subst (λ (rs : List RunningView). IsIn x rs) runs done)) [
+                | inl before ↦ front_rests x before
+                | inr own ↦ elim own [
+                  | inl same ↦ subst (Rests q params first new) (sym same) c.take.ensures.rests
+                  | inr none ↦ absurd none
+                ]
+              ]
+              | inr later ↦ left_rests x later
+            ];
+            taken = λ j d under. subst (λ (ns : List ℕ). IsTaken q params first new all (k + 1) ns j d) (sym places)
+                (moves_on q first params order levels new all k i below place low takes (map param_of front) j d under (inv.taken j d under));
             cost = new_cost;
           }
-      | else-not-stays w ↦
-          let places : map param_of (take c.if-not-stays.moving c.if-not-stays.running) ≡ done = ap₂ (λ m (rs : List RunningView). map param_of (take m rs)) w.moving-is w.running-is in
+      | else-take w ↦
+          let runs : take c.if-take.moving c.if-take.running ≡ front = ap₂ (λ m (rs : List RunningView). take m rs) w.moving-is w.running-is in
+          let places : map param_of (take c.if-take.moving c.if-take.running) ≡ map param_of front = ap (map param_of) runs in
           record {
             few = omega (arith, w.moving-is, inv.few);
             ahead = λ j x later. ap (λ (rs : List RunningView). slice_index_or rs j x) w.running-is ∙ inv.ahead j x (omega (arith, later));
-            rise = subst (λ (ns : List ℕ). RiseWithin 0 (length params) (ns ++ drop (k + 1) all)) (sym places) (rise_past (length params) k done all below inv.rise);
+            rise = subst (λ (ns : List ℕ). RiseWithin 0 count (ns ++ drop (k + 1) all)) (sym places) (rise_past count k (map param_of front) all below inv.rise);
             room = new_room;
-            taken = λ j d under. subst (λ (ns : List ℕ). IsTaken q params first (slice_set c.loop-k.levels p.id.node.0 c.take-stays.new.self) all (k + 1) ns j d) (sym places)
-                (stays q first params c.requires.nodes.1.order c.loop-k.levels all k i c.take-stays.new.self p below place low named room.0 done (c.take-stays.ensures.keeps w.if-not-stays.false) j d under (inv.taken j d under));
+            rests = λ x is. elim (IsIn-append (take c.if-take.moving c.if-take.running) left x is) [
+              | inl done ↦ front_rests x (subst (λ (rs : List RunningView). IsIn x rs) runs done)
+              | inr later ↦ left_rests x later
+            ];
+            taken = λ j d under. subst (λ (ns : List ℕ). IsTaken q params first new all (k + 1) ns j d) (sym places)
+                (stays q first params order levels new all k i below place low takes (map param_of front) (c.take.ensures.keeps w.if-take.false) j d under (inv.taken j d under));
             cost = new_cost;
           }
     ]
@@ -138,6 +156,7 @@ returns-clause-held g c =
         | inr (inl own) ↦ inl own.0
         | inr (inr keeps) ↦ inr keeps
       ];
+      rests = λ r is. inv.rests r (IsIn-append_first (take c.loop-k.moving c.loop-k.running) _ r is);
     }
 
 pub returns-clause-cost : goal.returns-clause-cost

@@ -8,16 +8,30 @@ use Rattle.mix_rules.specs.Mixing.{mix}
 use Rattle.conn_graph.specs.Ends.{reader_of}
 use Rattle.meaning.specs.Values.{part}
 use Rattle.channel_mix.specs.Sums.{sum_at}
-use Rattle.quantum_blocks.specs.Blocks.{BlockView, no_block, slot, block_of, carried, counts_in, frame_of}
+use Rattle.quantum_blocks.specs.Blocks.{BlockView, at, no_block, slot, block_of, carried, counts_in, frame_of}
 use Rattle.quantum_blocks.specs.Connections.{leads_to}
 use Rattle.quantum_blocks.specs.Waiting.{waiting_at}
+use Rattle.quantum_blocks.proofs.Silence.{part_none, silent_carried}
+use Rattle.quantum_blocks.proofs.gathering.hear.Goals.{then-is_silent-via-then-is_silent, then-is_silent-via-else-is_silent+then-not-is_same}
 use Rattle.quantum_blocks.proofs.gathering.hear.Goals as goal
 
-pub returns-then-not-is_same-clause-sums : goal.returns-then-not-is_same-clause-sums
-returns-then-not-is_same-clause-sums c w channel m in_range now =
-    let elsewhere = sym c.is_same.ensures ∙ c.if-not-is_same.true in
-    let none = ap (λ b. if b then part (frame_of w c.args.blocks.now c.args.counts.now m) c.args.inlet.interp c.args.inlet.count channel c.args.edge.now else pos 0) elsewhere in
-    omega (arith, ints, none)
+pub returns-then-is_silent-clause-sums : goal.returns-then-is_silent-clause-sums
+returns-then-is_silent-clause-sums c w channel m in_range now = elim c.then-is_silent.branch [
+  | then-is_silent-via-then-is_silent branch ↦
+      let source : End = reader_of c.args.edge.now.from.0 in
+      let place = c.slot-place.ensures ∙ ap slot c.reader.ensures in
+      let block : c.index-blocks-place.result ≡ block_of c.args.blocks.now source =
+      c.index-blocks-place.is ∙ get_or_default c.args.blocks.now c.slot-place.result c.index-blocks-place.result no_block (rw place c.requires.source.block) ∙ ap (λ k. slice_index_or c.args.blocks.now k no_block) place in
+      let now' : m < (block_of c.args.blocks.now source).frames = subst (λ k. m < k) (sym c.requires.source.frames) now in
+      let silent = subst (λ (b : BlockView). (lane n : ℕ) → lane < b.lanes → n < b.frames → at b lane n ≡ pos 0) block (c.is_silent.ensures branch.if-is_silent.true) in
+      let none = part_none (frame_of w c.args.blocks.now c.args.counts.now m) c.args.inlet.interp c.args.inlet.count channel c.args.edge.now (leads_to c.args.inlet.target c.args.edge.now)
+      (silent_carried (block_of c.args.blocks.now source) (counts_in c.args.counts.now source) c.args.edge.now.output m (λ lane low. silent lane m low now')) in
+      omega (arith, ints, none)
+  | then-is_silent-via-else-is_silent+then-not-is_same branch ↦
+      let elsewhere = sym branch.is_same.ensures ∙ branch.if-not-is_same.true in
+      let none = ap (λ b. if b then part (frame_of w c.args.blocks.now c.args.counts.now m) c.args.inlet.interp c.args.inlet.count channel c.args.edge.now else pos 0) elsewhere in
+      omega (arith, ints, none)
+]
 
 pub returns-in-Steady-clause-sums : goal.returns-in-Steady-clause-sums
 returns-in-Steady-clause-sums c w channel m in_range now =

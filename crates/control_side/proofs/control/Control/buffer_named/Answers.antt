@@ -6,4 +6,4 @@ pub returns-in-Some-Buffer-clause-there : goal.returns-in-Some-Buffer-clause-the
 returns-in-Some-Buffer-clause-there c =
     let a = c.find.ensures.object in
     let b = c.in-Some-Buffer.is in
-    rw (← c.self.view_is) (named_there c.self.inside.book.bindings c.args.name.now c.self.inside.world (Buffer c.in-Some-Buffer.buffer) c.self.invariant.valid.nodes.some c.self.invariant.bound cc)
+    rw (← c.self.view_is) (named_there c.self.inside.book.bindings c.args.name.now c.self.inside.world (Buffer c.in-Some-Buffer.buffer) c.self.invariant.0.valid.nodes.some c.self.invariant.0.bound cc)

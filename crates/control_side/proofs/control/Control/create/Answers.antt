@@ -1,4 +1,4 @@
-use Rattle.std.proofs.Common.{◌≡◌, ap, subst, sym, ◌∙◌}
+use Rattle.std.proofs.Common.{◌≡◌, ap, subst, sym, ◌∙◌, arith}
 use Rattle.name_book.specs.Book.{bound, first_named}
 use Rattle.meaning.specs.Changes.{Accepts, edited}
 use Rattle.control_side.specs.Machine.{Machine, IsAccepted, machine_of}
@@ -27,4 +27,4 @@ invariant_of-self-2 c =
     let accepts = rw (← c.self.view_is) at c.requires.accepted in
     let accepted : IsAccepted old edit = subst (λ t. Accepts old.world (record { time = t; edit = edit })) time accepts in
     let world = c.in_ok-apply.ensures.ok ∙ ap (λ t. edited old.world t edit) time in
-    subst IsSteady (sym (named_machine old c.args.name.now edit _ _ _ world bindings first_names)) (steady_named old edit c.args.name.now c.requires.creates accepted c.self.invariant)
+    (subst IsSteady (sym (named_machine old c.args.name.now edit _ _ _ world bindings first_names)) (steady_named old edit c.args.name.now c.requires.creates accepted c.self.invariant.0), λ next i d early low. absurd (omega (arith, early)))

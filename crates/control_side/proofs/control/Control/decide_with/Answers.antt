@@ -23,7 +23,7 @@ returns-in-Some-clause-decided c =
 
 pub returns-in-Some-clause-fits : goal.returns-in-Some-clause-fits
 returns-in-Some-clause-fits c =
-    let steady = subst IsSteady c.self.view_is c.self.invariant in
+    let steady = subst IsSteady c.self.view_is c.self.invariant.0 in
     subst (λ (o : Op). IfOk c.decode.result (IsFor c.args.self.now o)) (sym c.in-DecodeAudioData.is)
     (IfOk-weaker c.decode.result _ _ (λ d fit. fit_for c.args.self.now c.in-DecodeAudioData.name c.in-DecodeAudioData.path d steady fit) c.decode.ensures.fits)
 
@@ -33,5 +33,5 @@ returns-in_default-clause-decided c =
 
 pub returns-in_default-clause-fits : goal.returns-in_default-clause-fits
 returns-in_default-clause-fits c =
-    let steady = subst IsSteady c.self.view_is c.self.invariant in
+    let steady = subst IsSteady c.self.view_is c.self.invariant.0 in
     IfOk-weaker c.decide.result _ _ (λ d is. subst (IsFor c.args.self.now c.args.op.now) (sym is) (decided_for c.args.self.now steady c.args.op.now c.requires.in_range)) c.decide.ensures

@@ -1,4 +1,4 @@
-use Rattle.std.proofs.Common.{◌≡◌, false, ◌∙◌, sym, ap, subst}
+use Rattle.std.proofs.Common.{◌≡◌, false, ◌∙◌, sym, ap, subst, arith}
 use Rattle.std.specs.Prelude.{is_some}
 use Rattle.meaning.specs.declared.world.World.{World}
 use Rattle.meaning.specs.World.{plain}
@@ -14,4 +14,4 @@ invariant_of-self c =
     let old : Machine = machine_of c.self.inside.context c.self.inside.world c.self.inside.book in
     let none : creates c.args.edit ≡ false = c.requires.creates ∙ ap is_some c.in-None.is in
     let world : plain c.apply.new.self ≡ edited old.world old.context.time c.args.edit = c.in_ok-apply-in-None.ensures.ok ∙ ap (λ t. edited old.world t c.args.edit) c.now.ensures.now in
-    subst (λ (x : World). IsSteady (with_world old x)) (sym world) (steady_edited old c.args.edit none (rw (← c.self.view_is) at c.requires.accepted) c.self.invariant)
+    (subst (λ (x : World). IsSteady (with_world old x)) (sym world) (steady_edited old c.args.edit none (rw (← c.self.view_is) at c.requires.accepted) c.self.invariant.0), λ next i d early low. absurd (omega (arith, early)))

@@ -1,32 +1,18 @@
-use Rattle.std.proofs.Common.{rules, ℕ, ℤ, pos, List, take, FitsSigned, ◌≡◌, ◌≤◌, ◌<◌, ◌+◌, ◌-◌, ap, sym, subst, ◌∙◌, arith, length, get_or, inl, inr, Option, None, Some}
-use Rattle.std.specs.Prelude.{IfSome, slice_get}
+use Rattle.std.proofs.Common.{rules, pos, FitsSigned, ◌≡◌, ◌≤◌, ◌+◌, ◌-◌, ap, sym, subst, ◌∙◌, arith, length, get_or, inl, inr}
+use Rattle.std.specs.Prelude.{IfSome}
 use Rattle.std.specs.Int.{w32}
 use Rattle.std.proofs.lemmas.Int.{to_z-of_z}
-use Rattle.param_events.specs.declared.events.Event.{Event}
 use Rattle.std.specs.Option.{IsSomeAnd}
 use Rattle.param_events.specs.declared.events.Event.TheVariants.{Set}
-use Rattle.param_events.specs.Events.{time_of, last}
-use Rattle.param_events.specs.Values.{between, value_at}
+use Rattle.param_events.specs.Events.{time_of}
 use Rattle.param_events.proofs.Order.{order}
 use Rattle.param_cursor.proofs.Draws.{drawn_joined}
 use Rattle.param_events.proofs.Order.{rising_times}
 use Rattle.param_cursor.proofs.Neighbours.{if_there, at_place, at_some, last_next}
 use Rattle.param_cursor.proofs.Counting.{StandsAt, place_is, place_within, stands_at, moved_by}
 use Rattle.param_cursor.proofs.Stays.{between_at, stands_on, last_sound}
-use Rattle.param_events.specs.Timeline.{IsSound, IsTimeline}
+use Rattle.param_events.specs.Timeline.{IsSound}
 use Rattle.param_cursor.proofs.cursor.Cursor.draw.Goals as goal
-
--- the value that stays is that of each frame before the next event
-level_all : (o : Option ℤ) (base : ℤ) (es : List Event) (place first count : ℕ) → IsTimeline es → StandsAt place es first → ((d : Event) → place < length es → first + count ≤ time_of (get_or es place d))
-    → IfSome o (λ v. (later : ℕ) → first ≤ later → between base (last (take place es)) (slice_get es place) later ≡ v) → IfSome o (λ v. (m : ℕ) → m < count → value_at base es (first + m) ≡ v)
-level_all None base es place first count line stands later h = tt
-level_all (Some v) base es place first count line stands later h = λ m low. between_at base es place first (first + m) line stands (omega arith) (λ d l. let t = later d l in omega (arith, t, low)) ∙ h (first + m) (omega arith)
-
--- where no event is to come, it is that of all later frames
-level_lasts : (o : Option ℤ) (base : ℤ) (es : List Event) (place first : ℕ) → IsTimeline es → StandsAt place es first → place ≡ length es
-    → IfSome o (λ v. (later : ℕ) → first ≤ later → between base (last (take place es)) (slice_get es place) later ≡ v) → IfSome o (λ v. (later : ℕ) → first ≤ later → value_at base es later ≡ v)
-level_lasts None base es place first line stands past h = tt
-level_lasts (Some v) base es place first line stands past h = λ later from. between_at base es place first later line stands from (λ d l. absurd (omega (arith, l, past))) ∙ h later from
 
 pub event_before-here-requires : goal.event_before-here-requires
 event_before-here-requires g c = subst (λ p. p ≤ length c.args.line.now.events) (sym (c.self.view_is ∙ c.requires.stands)) (place_within c.args.first c.args.line.now.events)
@@ -37,36 +23,45 @@ block_end-end-requires g c =
     let stands = stands_at c.args.first c.self.inside.place events c.event_at-next.ensures.timeline.ordered (c.self.view_is ∙ c.requires.stands) in
     subst (λ o. IfSome o (λ e. c.args.first ≤ time_of e)) (sym c.event_at-next.ensures.value) (if_there c.self.inside.place events (λ e. c.args.first ≤ time_of e) stands.behind)
 
-pub level-level-requires : goal.level-level-requires
-level-level-requires g c =
+pub level-requires : goal.level-requires
+level-requires g c =
     let events = c.args.line.now.events in
     let stands = stands_at c.args.first c.self.inside.place events c.event_at-next.ensures.timeline.ordered (c.self.view_is ∙ c.requires.stands) in
     record { sound = subst (λ o. IfSome o IsSound) (sym c.event_before-here.ensures.value) (last_sound c.self.inside.place events c.event_at-next.ensures.timeline.ordered stands.within) }
 
-pub returns-then-is_some-clause-level : goal.returns-then-is_some-clause-level
-returns-then-is_some-clause-level g c =
+pub returns-in-Some-clause-level : goal.returns-in-Some-clause-level
+returns-in-Some-clause-level g c later from below =
     let events = c.args.line.now.events in
     let place = c.self.inside.place in
     let stands = stands_at c.args.first place events c.event_at-next.ensures.timeline.ordered (c.self.view_is ∙ c.requires.stands) in
-    let later = at_place place events (λ e. c.args.first + c.block_end-end.result ≤ time_of e) (subst (λ o. IfSome o (λ e. c.args.first + c.block_end-end.result ≤ time_of e)) c.event_at-next.ensures.value c.block_end-end.ensures.later) in
+    let next = at_place place events (λ e. time_of e ≡ c.stay_until.result) (subst (λ o. IfSome o (λ e. time_of e ≡ c.stay_until.result)) c.event_at-next.ensures.value c.stay_until.ensures.event) in
     let result : FitsSigned w32 c.base.result = search rules in
     let base : FitsSigned w32 c.args.line.now.base = subst (FitsSigned w32) c.base.ensures result in
-    let whole : c.block_end-end.result ≡ length c.args.out.now = c.if-end-count.true in
-    let held = simp (c.base.ensures, to_z-of_z _ _ base, c.event_before-here.ensures.value, c.event_at-next.ensures.value) at c.level-level.ensures in
-    level_all c.level-level.result c.args.line.now.base events place c.args.first (length c.args.out.now) c.event_at-next.ensures.timeline stands (λ d l. let t = later d l in omega (arith, t, whole)) held
+    let value : FitsSigned w32 c.in-Some.value = search rules in
+    let held = simp (c.base.ensures, to_z-of_z _ _ base, c.event_before-here.ensures.value, c.event_at-next.ensures.value) at c.in-Some.ensures in
+    between_at c.args.line.now.base events place c.args.first later c.event_at-next.ensures.timeline stands from (λ d l. let t = next d l in omega (arith, t, below)) ∙ held later from ∙ sym (to_z-of_z _ _ value)
 
-pub returns-then-is_some-clause-lasts : goal.returns-then-is_some-clause-lasts
-returns-then-is_some-clause-lasts g c past =
+pub returns-in-Some-clause-stays : goal.returns-in-Some-clause-stays
+returns-in-Some-clause-stays g c later from below =
+    let events = c.args.line.now.events in
+    let place = c.self.inside.place in
+    let stands = stands_at c.args.first place events c.event_at-next.ensures.timeline.ordered (c.self.view_is ∙ c.requires.stands) in
+    let next = at_place place events (λ e. time_of e ≡ c.stay_until.result) (subst (λ o. IfSome o (λ e. time_of e ≡ c.stay_until.result)) c.event_at-next.ensures.value c.stay_until.ensures.event) in
+    sym c.self.view_is ∙ place_is later place events c.event_at-next.ensures.timeline.ordered (stands_on events place c.args.first later stands from (λ d l. let t = next d l in omega (arith, t, below)))
+
+pub returns-in-Some-clause-lasts : goal.returns-in-Some-clause-lasts
+returns-in-Some-clause-lasts g c past later from =
     let events = c.args.line.now.events in
     let place = c.self.inside.place in
     let stands = stands_at c.args.first place events c.event_at-next.ensures.timeline.ordered (c.self.view_is ∙ c.requires.stands) in
     let result : FitsSigned w32 c.base.result = search rules in
     let base : FitsSigned w32 c.args.line.now.base = subst (FitsSigned w32) c.base.ensures result in
-    let held = simp (c.base.ensures, to_z-of_z _ _ base, c.event_before-here.ensures.value, c.event_at-next.ensures.value) at c.level-level.ensures in
-    level_lasts c.level-level.result c.args.line.now.base events place c.args.first c.event_at-next.ensures.timeline stands (c.self.view_is ∙ past) held
+    let value : FitsSigned w32 c.in-Some.value = search rules in
+    let held = simp (c.base.ensures, to_z-of_z _ _ base, c.event_before-here.ensures.value, c.event_at-next.ensures.value) at c.in-Some.ensures in
+    between_at c.args.line.now.base events place c.args.first later c.event_at-next.ensures.timeline stands from (λ d l. absurd (omega (arith, l, c.self.view_is, past))) ∙ held later from ∙ sym (to_z-of_z _ _ value)
 
-pub returns-then-is_some-clause-stands : goal.returns-then-is_some-clause-stands
-returns-then-is_some-clause-stands g c =
+pub returns-in-Some-clause-stands : goal.returns-in-Some-clause-stands
+returns-in-Some-clause-stands g c =
     let events = c.args.line.now.events in
     let place = c.self.inside.place in
     let stands = stands_at c.args.first place events c.event_at-next.ensures.timeline.ordered (c.self.view_is ∙ c.requires.stands) in

@@ -87,38 +87,38 @@ returns-clause-ok c =
     let counts : c.as_slice-counts.result.now ≡ c.args.self.now.counts = c.as_slice-counts.ensures.value ∙ ap (λ (r : RendererView). r.counts) c.self.view_is in
     let memory : Memory = record { causal = c.grow.new.self; delays = c.grow-2.new.self } in
     on_ok c.grow-2.result (λ rooms.
-    subst (λ (r : RendererView). IsGrown (grown memory c.fit_blocks.new.blocks.items c.end.new.self r) c.args.world.now) (sym c.self.view_is)
-    (is_grown memory c.fit_blocks.new.blocks.items c.end.new.self c.args.self.now (causal_now c) (delays_now c) c.args.world.now c.requires.counted (wakes (grown memory c.fit_blocks.new.blocks.items c.end.new.self c.args.self.now) c.args.world.now c.requires.valid (sym c.requires.spec) c.end.ensures)
+    subst (λ (r : RendererView). IsGrown (grown memory c.fit_blocks.new.blocks.items c.make_room.new.self r) c.args.world.now) (sym c.self.view_is)
+    (is_grown memory c.fit_blocks.new.blocks.items c.make_room.new.self c.args.self.now (causal_now c) (delays_now c) c.args.world.now c.requires.counted (wakes (grown memory c.fit_blocks.new.blocks.items c.make_room.new.self c.args.self.now) c.args.world.now c.requires.valid (sym c.requires.spec) c.make_room.ensures)
     (subst (λ ns. AreFit c.args.world.now ns c.fit_blocks.new.blocks.items) counts c.in_ok-fit_blocks.ensures) (subst (HaveRoom c.grow.new.self) counts c.in_ok-grow.ensures.ok) (subst (HaveDelayRoom c.grow-2.new.self) counts rooms)))
     c.grow-2.ensures.ok
 
 pub returns-clause-stands : goal.returns-clause-stands
 returns-clause-stands c tape =
     let memory : Memory = record { causal = c.grow.new.self; delays = c.grow-2.new.self } in (
-      λ stands. subst (λ (r : RendererView). StandsFor (grown memory c.fit_blocks.new.blocks.items c.end.new.self r) tape) (sym c.self.view_is) (still_stands memory c.fit_blocks.new.blocks.items c.end.new.self c.args.self.now (causal_now c) (delays_now c) tape stands),
-      λ stands. stood memory c.fit_blocks.new.blocks.items c.end.new.self c.args.self.now (causal_now c) (delays_now c) tape (subst (λ (r : RendererView). StandsFor (grown memory c.fit_blocks.new.blocks.items c.end.new.self r) tape) c.self.view_is stands),
+      λ stands. subst (λ (r : RendererView). StandsFor (grown memory c.fit_blocks.new.blocks.items c.make_room.new.self r) tape) (sym c.self.view_is) (still_stands memory c.fit_blocks.new.blocks.items c.make_room.new.self c.args.self.now (causal_now c) (delays_now c) tape stands),
+      λ stands. stood memory c.fit_blocks.new.blocks.items c.make_room.new.self c.args.self.now (causal_now c) (delays_now c) tape (subst (λ (r : RendererView). StandsFor (grown memory c.fit_blocks.new.blocks.items c.make_room.new.self r) tape) c.self.view_is stands),
     )
 
 pub returns-in_err-grow-clause-stands : goal.returns-in_err-grow-clause-stands
 returns-in_err-grow-clause-stands c tape =
     let memory : Memory = record { causal = c.grow.new.self; delays = c.args.self.now.memory.delays } in
     let same : AreSameDelays c.args.self.now.memory.delays c.args.self.now.memory.delays = record { quantum = refl; known = refl; count = refl; still = λ n. same_refl _ _ } in (
-      λ stands. subst (λ (r : RendererView). StandsFor (grown (record { causal = c.grow.new.self; delays = r.memory.delays }) c.fit_blocks.new.blocks.items c.end.new.self r) tape) (sym c.self.view_is) (still_stands memory c.fit_blocks.new.blocks.items c.end.new.self c.args.self.now (subst (λ (r : RendererView). AreSame r.memory.causal c.grow.new.self) c.self.view_is c.grow.ensures.same) same tape stands),
-      λ stands. stood memory c.fit_blocks.new.blocks.items c.end.new.self c.args.self.now (subst (λ (r : RendererView). AreSame r.memory.causal c.grow.new.self) c.self.view_is c.grow.ensures.same) same tape (subst (λ (r : RendererView). StandsFor (grown (record { causal = c.grow.new.self; delays = r.memory.delays }) c.fit_blocks.new.blocks.items c.end.new.self r) tape) c.self.view_is stands),
+      λ stands. subst (λ (r : RendererView). StandsFor (grown (record { causal = c.grow.new.self; delays = r.memory.delays }) c.fit_blocks.new.blocks.items c.make_room.new.self r) tape) (sym c.self.view_is) (still_stands memory c.fit_blocks.new.blocks.items c.make_room.new.self c.args.self.now (subst (λ (r : RendererView). AreSame r.memory.causal c.grow.new.self) c.self.view_is c.grow.ensures.same) same tape stands),
+      λ stands. stood memory c.fit_blocks.new.blocks.items c.make_room.new.self c.args.self.now (subst (λ (r : RendererView). AreSame r.memory.causal c.grow.new.self) c.self.view_is c.grow.ensures.same) same tape (subst (λ (r : RendererView). StandsFor (grown (record { causal = c.grow.new.self; delays = r.memory.delays }) c.fit_blocks.new.blocks.items c.make_room.new.self r) tape) c.self.view_is stands),
     )
 
 pub returns-in_err-fit_blocks-clause-stands : goal.returns-in_err-fit_blocks-clause-stands
 returns-in_err-fit_blocks-clause-stands c tape = (
-  λ stands. subst (λ (r : RendererView). StandsFor (record r { blocks = c.fit_blocks.new.blocks.items; rest = c.end.new.self }) tape) (sym c.self.view_is) (record { quanta = stands.quanta; nodes = stands.nodes; causal = stands.causal; delays = stands.delays }),
+  λ stands. subst (λ (r : RendererView). StandsFor (record r { blocks = c.fit_blocks.new.blocks.items; rest = c.make_room.new.self }) tape) (sym c.self.view_is) (record { quanta = stands.quanta; nodes = stands.nodes; causal = stands.causal; delays = stands.delays }),
   λ stands.
-      let was = subst (λ (r : RendererView). StandsFor (record r { blocks = c.fit_blocks.new.blocks.items; rest = c.end.new.self }) tape) c.self.view_is stands in
+      let was = subst (λ (r : RendererView). StandsFor (record r { blocks = c.fit_blocks.new.blocks.items; rest = c.make_room.new.self }) tape) c.self.view_is stands in
       record { quanta = was.quanta; nodes = was.nodes; causal = was.causal; delays = was.delays },
 )
 
-pub returns-in_err-end-clause-stands : goal.returns-in_err-end-clause-stands
-returns-in_err-end-clause-stands c tape = (
-  λ stands. subst (λ (r : RendererView). StandsFor (record r { rest = c.end.new.self }) tape) (sym c.self.view_is) (record { quanta = stands.quanta; nodes = stands.nodes; causal = stands.causal; delays = stands.delays }),
+pub returns-in_err-make_room-clause-stands : goal.returns-in_err-make_room-clause-stands
+returns-in_err-make_room-clause-stands c tape = (
+  λ stands. subst (λ (r : RendererView). StandsFor (record r { rest = c.make_room.new.self }) tape) (sym c.self.view_is) (record { quanta = stands.quanta; nodes = stands.nodes; causal = stands.causal; delays = stands.delays }),
   λ stands.
-      let was = subst (λ (r : RendererView). StandsFor (record r { rest = c.end.new.self }) tape) c.self.view_is stands in
+      let was = subst (λ (r : RendererView). StandsFor (record r { rest = c.make_room.new.self }) tape) c.self.view_is stands in
       record { quanta = was.quanta; nodes = was.nodes; causal = was.causal; delays = was.delays },
 )

@@ -6,7 +6,7 @@ use Rattle.quantum_blocks.specs.Blocks.{frame_of}
 use Rattle.quantum_blocks.specs.Connections.{leads_to, no_edge}
 use Rattle.quantum_blocks.specs.Pairs.{IsBrought}
 use Rattle.quantum_blocks.proofs.Connections.{two_items, total_of_two}
-use Rattle.quantum_blocks.proofs.gathering.moving_pair.Goals as goal
+use Rattle.quantum_blocks.proofs.gathering.pair.Goals as goal
 
 pub returns : goal.returns
 returns c q is =
@@ -15,8 +15,8 @@ returns c q is =
     let edges = c.args.into.now in
     let first : Edge = slice_index_or edges 0 no_edge in
     let second : Edge = slice_index_or edges 1 no_edge in
-    let one : IsBrought q c.args.counts.now c.args.blocks.now first c.args.inlet c.in_ok-heard.heard.now = c.in_ok-heard.ensures q (is 0 no_edge (omega arith)) in
-    let other : IsBrought q c.args.counts.now c.args.blocks.now second c.args.inlet c.in_ok-moving.field-0.now = c.in_ok-moving.ensures q (is 1 no_edge (omega arith)) in
+    let one : IsBrought q c.args.counts.now c.args.blocks.now first c.args.inlet c.in_ok-heard.heard = c.in_ok-heard.ensures q (is 0 no_edge (omega arith)) in
+    let other : IsBrought q c.args.counts.now c.args.blocks.now second c.args.inlet c.in_ok-brought.field-0 = c.in_ok-brought.ensures q (is 1 no_edge (omega arith)) in
     record {
       one_long = one.long;
       other_long = other.long;
