@@ -1,6 +1,8 @@
 -- Parameters that run: some of all, in order.
-use Rattle.std.proofs.Common.{ℕ, zero, suc, ◌≡◌, ◌+◌, ◌≤◌, ◌<◌, length, List, [], ◌∷◌, ◌++◌, map, take, drop, slice_index_or, slice_set, inl, inr, refl, sym, ◌∙◌, ap, arith, subst}
-use Rattle.std.specs.Prelude.{◌⊎◌}
+use Rattle.std.proofs.Common.{ℕ, zero, suc, ◌≡◌, ◌+◌, ◌≤◌, ◌<◌, length, List, [], ◌∷◌, ◌++◌, map, take, drop, slice_index_or, slice_set, Bool, true, false, inl, inr, refl, sym, ◌∙◌, ap, arith, subst}
+use Rattle.std.specs.Prelude.{◌⊎◌, nat_lt}
+use Rattle.std.specs.List.Sorted.{IsNonDecreasingBy}
+use Rattle.std.proofs.lemmas.Bool.Decides.{nat_tests}
 use Rattle.std.specs.List.{sum_by}
 use Rattle.std.proofs.lemmas.List.{append_assoc, append-nil, drop-map, drop_all, drop_more, get_or-map, get_or-set_other, length-map}
 use Rattle.std.proofs.lemmas.Grind.{get_or-set_at}
@@ -8,7 +10,7 @@ use Rattle.std.proofs.lemmas.List.Sums.{sum-map, sum_by-cons, sum_by_more, sum_b
 use Rattle.law_base.specs.Members.{IsIn}
 use Rattle.law_base.proofs.Members.{IsIn-append_first, IsIn-append_second}
 use Rattle.automation.specs.Ready.{AreRunning, RiseWithin, RunningView, param_of}
-use Rattle.automation.proofs.Places.{before_or_here, in_list}
+use Rattle.automation.proofs.Places.{before_or_here, in_list, place_of}
 
 -- ---- numbers that rise
 
@@ -173,3 +175,43 @@ item_more P xs k y l own old j d low = elim (before_or_here k j low) [
   | inl before ↦ subst P (sym (get_or-set_other xs k j y d (λ e. let same : j ≡ k = e in omega (arith, before, same)))) (old j d before)
   | inr same ↦ subst P (sym (get_or-set_at xs k j y d same l)) own
 ]
+
+-- ---- a search by the places
+
+pub running_rise : (low end : ℕ) (rs : List RunningView) → RiseWithin low end (map param_of rs) → IsNonDecreasingBy param_of rs
+running_rise low end [] up i j d l m = absurd (omega arith)
+running_rise low end (r ∷ rs) up zero zero d l m = omega arith
+running_rise low end (r ∷ rs) up zero (suc j) d l m =
+    let from = rise_from (r.param + 1) end (map param_of rs) up.2 (slice_index_or rs j d).param (IsIn-map param_of rs (slice_index_or rs j d) (in_list rs j d (omega arith))) in
+    omega (arith, from)
+running_rise low end (r ∷ rs) up (suc i) zero d l m = absurd (omega arith)
+running_rise low end (r ∷ rs) up (suc i) (suc j) d l m = running_rise (r.param + 1) end rs up.2 i j d (omega arith) (omega arith)
+
+-- where those before a place are below a number, and the one there is above it, none has it
+pub runs_not : (end : ℕ) (rs : List RunningView) (k n : ℕ) → RiseWithin 0 end (map param_of rs) → ((i : ℕ) (d : RunningView) → i < k → i < length rs → (slice_index_or rs i d).param < n)
+    → ((d : RunningView) → k < length rs → n < (slice_index_or rs k d).param) → IsIn n (map param_of rs) → ⊥
+runs_not end rs k n up low high there = by_side (nat_lt i k) refl
+  where
+    found : (i : ℕ) × (i < length (map param_of rs)) × ((d : ℕ) → slice_index_or (map param_of rs) i d ≡ n)
+    found = place_of (map param_of rs) n there
+
+    i : ℕ
+    i = found.0
+
+    d : RunningView
+    d = record { param = 0; cursor = 0; until = 0 }
+
+    within : i < length rs
+    within = subst (λ len. i < len) (length-map rs param_of) found.1
+
+    here : (slice_index_or rs i d).param ≡ n
+    here = sym (get_or-map param_of rs i d 0 within) ∙ found.2 0
+
+    by_side : (b : Bool) → nat_lt i k ≡ b → ⊥
+    by_side true t = let below : i < k = grind (arith, nat_tests) in let less = low i d below within in omega (arith, less, here)
+    by_side false t =
+        let from : k ≤ i = grind (arith, nat_tests) in
+        let some : k < length rs = omega (arith, from, within) in
+        let more = high d some in
+        let up' = running_rise 0 end rs up k i d from within in
+        omega (arith, more, up', here)

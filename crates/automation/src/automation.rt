@@ -1,18 +1,18 @@
-ghost use Rattle.std.specs.Prelude.{max, ◌≡◌, ◌↔◌, [], ◌<◌, ◌≤◌, ◌+◌, ◌^◌, ℕ, List, false, length, map, slice_index_or, take, IsTrue, OnOk};
+ghost use Rattle.std.specs.Prelude.{max, ◌≡◌, ◌↔◌, ◌⊎◌, [], ◌<◌, ◌≤◌, ◌+◌, ◌^◌, ℕ, List, false, length, map, slice_index_or, take, IsTrue, IfSome, OnOk};
 ghost use Rattle.std.specs.List.{sum_by};
 ghost use Rattle.law_base.specs.Members.{IsIn};
 ghost use Rattle.wa_base.specs.Contexts.{IsQuantumSize};
 ghost use Rattle.meaning.specs.declared.params.Param.{Param as a_param};
-ghost use Rattle.automation.specs.Levels.{LevelView as a_level, AreLevels, HasRoom, Keeps, level_of};
+ghost use Rattle.automation.specs.Levels.{LevelView as a_level, AreLevels, HasRoom, Keeps, StaysAt, level_of};
 ghost use Rattle.automation.specs.Ready.{RunningView as a_running, AllRest, AreOfNodes, AreRunning, IsHeld, IsReady, Rests, Stands, TakesLevel, looks_at, param_of};
 
-use crate::level::{Lasting, Level};
+use crate::level::{Lasting, Level, Values};
 use meaning::Param;
 use param_cursor::Cursor;
 use std::alloc::Global;
 use std::marker::Model;
 use std::sync::ledger::Ledger;
-use wa_base::{NoMemory, NodeId, Steps};
+use wa_base::{Fix, NoMemory, NodeId, Steps};
 
 /// The automation of all parameters of a world: the level of each in the last quantum, and for each
 /// whose level may still change the place in its timeline, and the frame until which both stay.
@@ -207,6 +207,37 @@ impl Automation {
             steps,
         );
         self.running.truncate(moving);
+    }
+
+    /// The value that the level of a parameter, by its place, has in each quantum that ends at or before a
+    /// frame, where it is known to be one. It is known up to the next event, and where no event is to come it
+    /// is known for ever.
+    pub fn stays(&self, params: &[Param], place: usize, until: u64) -> Option<Fix>
+        requires there { place < length params.now }
+        requires held { (first : ℕ) × IsHeld params.now first self.now }
+        ensures { (first : ℕ) (d : a_param) → IsHeld params.now first self.now → IfSome result (λ value. StaysAt self.now.quantum first until (slice_index_or params.now place d) value) }
+    {
+        if self.rests_until(place) < until {
+            return None;
+        }
+        let node = params[place].id.node.0 as usize;
+        match self.levels[node].values() {
+            Values::Steady(value) => Some(value),
+            Values::Rising(_) | Values::Moving(_) => None,
+        }
+    }
+
+    // The frame until which the level of a parameter, by its place, is known to stay.
+    fn rests_until(&self, place: usize) -> u64
+        requires { (count : ℕ) × AreRunning count self.now.running }
+        ensures { ((r : a_running) × IsIn r self.now.running × (r.param ≡ place) × (r.until ≡ result)) ⊎ (IsIn place (map param_of self.now.running) → ⊥) }
+    {
+        let k = self.running.partition_point(|one| one.param < place);
+        if k < self.running.len() && self.running[k].param == place {
+            self.running[k].until
+        } else {
+            u64::MAX
+        }
     }
 
     /// The levels, one for each node. That of a node without a parameter says nothing.

@@ -5,7 +5,7 @@ ghost use Rattle.automation.specs.Levels.{HasRoom, IsLevelOf};
 ghost use Rattle.automation.specs.Held.{AreValues, Lasts};
 
 use meaning::Param;
-use param_cursor::Cursor;
+use param_cursor::{Cursor, Drawn, Ramp};
 use std::alloc::Global;
 use std::marker::Model;
 use std::sync::ledger::Ledger;
@@ -16,15 +16,25 @@ use wa_base::{Fix, NoMemory, Rate, Steps};
 #[derive(Drop)]
 pub struct Level {
     rate: Rate,
-    // Whether the first value stands for all frames.
-    steady: bool,
+    shape: Shape,
+    // Room for a value for each frame: that of the level, where the shape has none.
     values: Vec<Fix>,
 }
 
-/// How a level holds its values: one that it has at all frames, or one for each frame.
+// Which values a level has: one at all frames, those of a ramp, or one that stands for each frame.
+#[derive(Clone, Copy)]
+enum Shape {
+    Steady(Fix),
+    Rising(Ramp),
+    Each,
+}
+
+/// How a level holds its values: one that it has at all frames, the ramp that they lie on, or one for
+/// each frame.
 #[derive(Clone, Copy)]
 pub enum Values<'a> {
     Steady(Fix),
+    Rising(Ramp),
     Moving(&'a [Fix]),
 }
 
@@ -37,11 +47,14 @@ pub(crate) enum Lasting {
 }
 
 impl Model for Level {
-    ghost use Rattle.automation.specs.Levels.{LevelView};
+    ghost use Rattle.std.specs.Prelude.{length};
+    ghost use Rattle.automation.specs.Levels.{LevelView, GoesOn};
 
     ghost Value = { LevelView };
 
-    ghost view = { λ s. record { rate = s.rate; steady = s.steady; values = s.values.items } };
+    ghost view = { λ s. record { rate = s.rate; shape = s.shape; values = s.values.items } };
+
+    ghost invariant = { λ s. GoesOn (length s.values.items) s.shape };
 }
 
 impl Level {
@@ -49,7 +62,7 @@ impl Level {
     pub(crate) fn empty(alloc: Global) -> Level {
         Level {
             rate: Rate::A,
-            steady: true,
+            shape: Shape::Steady(0),
             values: Vec::new(alloc),
         }
     }
@@ -59,6 +72,7 @@ impl Level {
         ensures { OnOk result (HasRoom frames self.new) }
     {
         if self.values.len() != frames {
+            self.shape = Shape::Steady(0);
             self.values.resize(frames, 0)?;
         }
         Ok(())
@@ -88,20 +102,17 @@ impl Level {
             Rate::K => 1,
         };
         let is_past = cursor.is_past(&param.line);
-        match cursor.draw(&mut self.values[0..count], first, &param.line, steps) {
-            Some(stay) => {
-                self.steady = true;
-                self.values[0] = stay.value;
-                if is_past {
-                    Lasting::Ever
-                } else {
-                    Lasting::Until(stay.until)
-                }
-            }
-            None => {
-                self.steady = count == 1;
-                Lasting::Until(0)
-            }
+        let drawn = cursor.draw(&mut self.values[0..count], first, &param.line, steps);
+        self.shape = match drawn {
+            Drawn::Stays(stay) => Shape::Steady(stay.value),
+            Drawn::Rises(ramp) => Shape::Rising(ramp),
+            Drawn::Each if count == 1 => Shape::Steady(self.values[0]),
+            Drawn::Each => Shape::Each,
+        };
+        match drawn {
+            Drawn::Stays(_) if is_past => Lasting::Ever,
+            Drawn::Stays(stay) => Lasting::Until(stay.until),
+            Drawn::Rises(_) | Drawn::Each => Lasting::Until(0),
         }
     }
 
@@ -117,10 +128,10 @@ impl Level {
         requires { IsQuantumSize (length self.now.values) }
         ensures { AreValues (length self.now.values) self.now result }
     {
-        if self.steady {
-            Values::Steady(self.values[0])
-        } else {
-            Values::Moving(self.values.as_slice())
+        match self.shape {
+            Shape::Steady(value) => Values::Steady(value),
+            Shape::Rising(ramp) => Values::Rising(ramp),
+            Shape::Each => Values::Moving(self.values.as_slice()),
         }
     }
 }

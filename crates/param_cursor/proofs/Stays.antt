@@ -41,3 +41,12 @@ last_sound zero es h l = tt
 last_sound (suc k) es h l =
     let d = Set 0 (pos 0) in
     subst (λ o. IfSome o IsSound) (sym (last_taken (suc k) es d (omega arith) l)) (sound_at 0 (suc k - 1) es d h (omega arith))
+
+-- the event before a cursor has begun
+pub last_begun : (place frame : ℕ) (es : List Event) → StandsAt place es frame → IfSome (last (take place es)) (λ event. time_of event ≤ frame)
+last_begun zero frame es stands = tt
+last_begun (suc k) frame es stands =
+    let d = Set 0 (pos 0) in
+    let before = stands.before d (omega arith) in
+    let begun : time_of (get_or es (suc k - 1) d) ≤ frame = omega (arith, before) in
+    subst (λ o. IfSome o (λ event. time_of event ≤ frame)) (sym (last_taken (suc k) es d (omega arith) stands.within)) begun

@@ -1,11 +1,14 @@
-ghost use Rattle.std.specs.Prelude.{◌≡◌, ◌↔◌, ℕ, pos, length, ◌+◌, ◌<◌, ◌≤◌, ◌^◌, option_copied, slice_index_or, slice_get, take, IfSome, IsTrue, None};
+ghost use Rattle.std.specs.Prelude.{◌≡◌, ◌↔◌, ℕ, pos, length, ◌+◌, ◌<◌, ◌≤◌, ◌^◌, option_copied, slice_index_or, slice_get, take, IsTrue};
 ghost use Rattle.param_events.specs.Events.{last};
 ghost use Rattle.param_events.specs.Timeline.{IsTimeline};
 ghost use Rattle.param_events.specs.Values.{value_at};
 ghost use Rattle.param_cursor.specs.Cursors as cursors;
+ghost use Rattle.param_cursor.specs.Ramps.{IfRises, IfStays, LastsFor, rise_at};
+ghost use Rattle.param_cursor.specs.declared.levels.Drawn.TheVariants.{Each};
 
 use crate::drawing::draw_level;
-use crate::levels::{Stay, level, stay_until};
+use crate::levels::{Drawn, Stay, level, stay_until};
+use crate::ramps::ramp_between;
 use crate::spans::{Around, block_end, draw_around};
 use param_events::{Event, Timeline};
 use std::marker::Model;
@@ -103,9 +106,9 @@ impl Cursor {
 
     /// Takes the intrinsic values of a block of at most 1,024 frames that begins where the cursor stands,
     /// and moves the cursor behind it. It answers the value that all frames have, and how long it stays and
-    /// the cursor stands, and writes nothing; or it writes a value for each. Where no event is to come, a
-    /// value that all frames have is that of all later frames too. It looks at no more than two events, and
-    /// those with a time in the block.
+    /// the cursor stands, or the ramp that all frames lie on, of which there are two at least, and writes
+    /// nothing; or it writes a value for each. Where no event is to come, a value that all frames have is
+    /// that of all later frames too. It looks at no more than two events, and those with a time in the block.
     ///
     /// A ramp, and a curve between two of its points, is divided out only where it begins or the block
     /// does. From there on each frame takes an addition and a comparison.
@@ -115,15 +118,18 @@ impl Cursor {
         first: u64,
         line: &Timeline,
         steps: &mut Steps<L>,
-    ) -> Option<Stay>
+    ) -> Drawn
         requires first { first ≤ 2 ^ 62 }
         requires frames { length out.old ≤ 1024 }
         requires stands { self.old ≡ cursors.place_at first line.now.events }
-        ensures level { IfSome result (λ stay. (later : ℕ) → first ≤ later → later < stay.until → value_at line.now.base line.now.events later ≡ stay.value) }
-        ensures within { IfSome result (λ stay. first + length out.new ≤ stay.until) }
-        ensures stays { IfSome result (λ stay. (later : ℕ) → first ≤ later → later ≤ stay.until → self.new ≡ cursors.place_at later line.now.events) }
-        ensures lasts { self.old ≡ length line.now.events → IfSome result (λ stay. (later : ℕ) → first ≤ later → value_at line.now.base line.now.events later ≡ stay.value) }
-        ensures values { result ≡ None → (m : ℕ) → m < length out.new → slice_index_or out.new m (pos 0) ≡ value_at line.now.base line.now.events (first + m) }
+        ensures level { IfStays result (λ stay. (later : ℕ) → first ≤ later → later < stay.until → value_at line.now.base line.now.events later ≡ stay.value) }
+        ensures within { IfStays result (λ stay. first + length out.new ≤ stay.until) }
+        ensures stays { IfStays result (λ stay. (later : ℕ) → first ≤ later → later ≤ stay.until → self.new ≡ cursors.place_at later line.now.events) }
+        ensures lasts { self.old ≡ length line.now.events → IfStays result (λ stay. (later : ℕ) → first ≤ later → value_at line.now.base line.now.events later ≡ stay.value) }
+        ensures rises { IfRises result (λ ramp. (m : ℕ) → m < length out.new → value_at line.now.base line.now.events (first + m) ≡ rise_at ramp m) }
+        ensures lies { IfRises result (λ ramp. LastsFor ramp (length out.new)) }
+        ensures long { IfRises result (λ ramp. 1 < length out.new) }
+        ensures values { result ≡ Each → (m : ℕ) → m < length out.new → slice_index_or out.new m (pos 0) ≡ value_at line.now.base line.now.events (first + m) }
         ensures stands { self.new ≡ cursors.place_at (first + length out.new) line.now.events }
         ensures moved { steps.new + self.old ≤ steps.old + 2 + self.new }
         ensures cost { steps.new ≤ steps.old + 2 + length (cursors.within first (first + length out.new) line.now.events) }
@@ -135,10 +141,13 @@ impl Cursor {
         let mut end = block_end(next, first, count);
         if end == count {
             if let Some(value) = level(line.base(), here, next, first) {
-                return Some(Stay {
+                return Drawn::Stays(Stay {
                     value,
                     until: stay_until(next),
                 });
+            }
+            if let Some(ramp) = ramp_between(here, next, first, count) {
+                return Drawn::Rises(ramp);
             }
         }
         draw_around(out, 0, end, Around { place, here, next }, line, first);
@@ -151,7 +160,7 @@ impl Cursor {
             draw_around(out, at, end, Around { place, here, next }, line, first);
         }
         self.place = place;
-        None
+        Drawn::Each
     }
 
     /// Writes the intrinsic values of a block of at most 1,024 frames that begins where the cursor
@@ -172,9 +181,13 @@ impl Cursor {
         ensures moved { steps.new + self.old ≤ steps.old + 2 + self.new }
         ensures cost { steps.new ≤ steps.old + 2 + length (cursors.within first (first + length out.new) line.now.events) }
     {
-        if let Some(stay) = self.draw(out, first, line, steps) {
-            let end = out.len();
-            draw_level(out, 0, end, stay.value);
+        match self.draw(out, first, line, steps) {
+            Drawn::Stays(stay) => {
+                let end = out.len();
+                draw_level(out, 0, end, stay.value);
+            }
+            Drawn::Rises(ramp) => ramp.write(out),
+            Drawn::Each => {}
         }
     }
 }

@@ -91,7 +91,14 @@ fn draw_singly(out: &mut [Fix], at: usize, end: usize, from: Fix, slope: Slope)
 
 // A line from its n-th part on, where each frame takes `gain` parts. Its first value and its step are
 // divided out.
-fn draw_steps(out: &mut [Fix], at: usize, end: usize, segment: Segment, n: u64, gain: u64)
+pub(crate) fn draw_steps(
+    out: &mut [Fix],
+    at: usize,
+    end: usize,
+    segment: Segment,
+    n: u64,
+    gain: u64,
+)
     requires ends { end ≤ length out.old }
     requires order { at ≤ end }
     requires before { (m : ℕ) → at ≤ m → m < end → n + gain * (m - at) ≤ segment.parts }

@@ -1,10 +1,21 @@
-ghost use Rattle.std.specs.Prelude.{◌≡◌, ℕ, ◌-◌, ◌≤◌, ◌^◌, IfSome, None, option_copied};
+ghost use Rattle.std.specs.Prelude.{◌≡◌, ℕ, ℤ, ◌-◌, ◌≤◌, ◌^◌, IfSome, None, Option, Some, option_copied};
+ghost use Rattle.param_events.specs.declared.events.Event.{Event};
 ghost use Rattle.param_events.specs.Events.{time_of};
 ghost use Rattle.param_events.specs.Timeline.{IsSound};
 ghost use Rattle.param_events.specs.Values as values;
 
+use crate::ramps::Ramp;
 use param_events::{Event, curve_value};
 use wa_base::Fix;
+
+/// How the values of a block are drawn: one that stays, a ramp that all of them lie on, or one written
+/// for each frame.
+#[derive(Clone, Copy, PartialEq, Eq, Debug)]
+pub enum Drawn {
+    Stays(Stay),
+    Rises(Ramp),
+    Each,
+}
 
 /// A value that all frames have from the first of a block on and before the frame `until`: that of the
 /// next event, or `u64::MAX` where none is to come.
@@ -12,6 +23,27 @@ use wa_base::Fix;
 pub struct Stay {
     pub value: Fix,
     pub until: u64,
+}
+
+// A value that is held from a frame on.
+#[derive(Clone, Copy)]
+pub(crate) struct Held {
+    pub(crate) value: Fix,
+    pub(crate) from: u64,
+}
+
+// The value that is held from an event on, before the next one. Of a curve there is none.
+pub(crate) fn held_from(event: &Event) -> Option<Held>
+    ensures value { IfSome result (λ held. (base : ℤ) (next : Option Event) (frame : ℕ) → values.between base (Some event.now) next frame ≡ values.towards held.value held.from next frame) }
+    ensures from { IfSome result (λ held. held.from ≡ time_of event.now) }
+{
+    match event {
+        Event::Set { time, value } | Event::Ramp { time, value } => Some(Held {
+            value: *value,
+            from: *time,
+        }),
+        Event::Curve { .. } => None,
+    }
 }
 
 // The time of the next event, or the last of all where none is to come.

@@ -5,8 +5,10 @@ mod cursor;
 mod drawing;
 mod lanes;
 mod levels;
+mod ramps;
 mod slope;
 mod spans;
 
 pub use cursor::Cursor;
-pub use levels::Stay;
+pub use levels::{Drawn, Stay};
+pub use ramps::Ramp;

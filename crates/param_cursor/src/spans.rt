@@ -7,15 +7,9 @@ ghost use Rattle.param_events.specs.Values as values;
 ghost use Rattle.param_cursor.specs.Cursors.{IsDrawn};
 
 use crate::drawing::{Segment, draw_curve, draw_level, draw_segment};
+use crate::levels::Held;
 use param_events::{Event, Timeline, curve_value};
 use wa_base::Fix;
-
-// A value that is held from a frame on.
-#[derive(Clone, Copy)]
-struct Held {
-    value: Fix,
-    from: u64,
-}
 
 // The events before a place and at it, where there are any.
 #[derive(Clone, Copy)]

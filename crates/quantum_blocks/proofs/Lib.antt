@@ -11,3 +11,4 @@ pub mod Holding
 pub mod Heard
 pub mod Widening
 pub mod Added
+mod Doubled

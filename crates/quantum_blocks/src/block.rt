@@ -2,6 +2,7 @@ ghost use Rattle.std.specs.Prelude.{◌≡◌, ◌≤◌, ◌<◌, ◌*◌, ◌+
 ghost use Rattle.std.specs.Int.{w32};
 ghost use Rattle.wa_base.specs.Numbers.{sat as saturated, scale as scaled};
 ghost use Rattle.wa_base.specs.Contexts.{IsQuantumSize};
+ghost use Rattle.param_cursor.specs.Ramps.{LastsFor, rise_at};
 ghost use Rattle.node_table.specs.Curves.{IsCurve, shaper_value};
 ghost use Rattle.sched_source.specs.Schedule.{is_between, played};
 ghost use Rattle.meaning.specs.World.{channels_in, samples_in, up_to as clamped};
@@ -18,13 +19,14 @@ ghost use Rattle.quantum_blocks.specs.Held.{IsHeld, IsCarried, IsWidened};
 use crate::gathering::{Inlet, gather, pair};
 use crate::held::Held;
 use crate::kernels::{
-    copy_values, fill, is_throughout, move_on, raise_channels, scale_all, scale_channels,
-    scale_steady, silence, sound, spread, unfold_if, up_to, up_to_each,
+    are_scaled, copy_values, fill, is_throughout, move_on, raise_channels, scale_all,
+    scale_channels, scale_steady, silence, sound, spread, unfold_if, up_to, up_to_each,
 };
 use crate::playing::Source;
 use channel_mix::{Sums, level_of, sum_into};
 use conn_graph::Edge;
 use lane_kern::sat_into;
+use param_cursor::Ramp;
 use shaper_iir::shape_all;
 use std::alloc::Global;
 use std::marker::Model;
@@ -142,9 +144,30 @@ impl Block {
     pub fn is_silent(&self) -> bool
         ensures { IsTrue result → (lane m : ℕ) → lane < self.now.lanes → m < self.now.frames → at self.now lane m ≡ pos 0 }
     {
+        self.holds(0)
+    }
+
+    /// Whether it is seen at once to have one value on all lanes, at all frames: what moves is not looked at.
+    pub fn holds(&self, value: Fix) -> bool
+        ensures { IsTrue result → (lane m : ℕ) → lane < self.now.lanes → m < self.now.frames → at self.now lane m ≡ value }
+    {
         match self.held() {
-            Held::Steady(held) => held.iter().all(|value| *value == 0),
+            Held::Steady(held) => held.iter().all(|one| *one == value),
             Held::Moving(_) => false,
+        }
+    }
+
+    /// Whether it is seen at once to be what an output of another block is, multiplied by one gain: what moves
+    /// is not looked at.
+    pub fn is_scaled(&self, other: &Block, output: usize, gain: Fix) -> bool
+        requires output { output * self.now.lanes + self.now.lanes ≤ other.now.lanes }
+        requires frames { other.now.frames ≡ self.now.frames }
+        ensures values { IsTrue result → (c m : ℕ) → c < self.now.lanes → m < self.now.frames → at self.now c m ≡ scaled (carried other.now self.now.lanes output m c) gain }
+        ensures fit { IsTrue result → (c m : ℕ) → c < self.now.lanes → m < self.now.frames → FitsSigned w32 (carried other.now self.now.lanes output m c) }
+    {
+        match (self.held(), other.output(output, self.lanes)) {
+            (Held::Steady(held), Held::Steady(heard)) => are_scaled(held, heard, gain),
+            (Held::Steady(_) | Held::Moving(_), _) => false,
         }
     }
 
@@ -210,6 +233,21 @@ impl Block {
         self.lanes = 1;
         self.steady = true;
         fill(&mut self.values[0..1], value);
+    }
+
+    /// Becomes one lane with the values of a ramp.
+    pub fn rise(&mut self, ramp: &Ramp)
+        requires lasts { LastsFor ramp.now self.old.frames }
+        requires room { self.old.frames ≤ room_of self.old }
+        ensures frames { self.new.frames ≡ self.old.frames }
+        ensures lanes { self.new.lanes ≡ 1 }
+        ensures room { room_of self.new ≡ room_of self.old }
+        ensures values { (m : ℕ) → m < self.old.frames → at self.new 0 m ≡ rise_at ramp.now m }
+        ensures fit { (m : ℕ) → m < self.old.frames → FitsSigned w32 (rise_at ramp.now m) }
+    {
+        self.lanes = 1;
+        self.steady = false;
+        ramp.write(&mut self.values[0..self.frames]);
     }
 
     /// Of one lane, adds at each frame the sum there, saturated before and after.

@@ -1,7 +1,8 @@
 ghost use Rattle.std.specs.Prelude.{◌≡◌, ◌<◌, ◌*◌, ℕ, length, slice_index_or, OnOk};
 ghost use Rattle.wa_base.specs.declared.graph_names.End.{End as an_end};
+ghost use Rattle.law_base.specs.Members.{IsIn};
 ghost use Rattle.meaning.specs.Validity.{IsValid};
-ghost use Rattle.quantum_blocks.specs.Blocks.{slot as slot_of, lanes_of, frames_of, IsSilent, Writes};
+ghost use Rattle.quantum_blocks.specs.Blocks.{slot as slot_of, block_of, lanes_of, frames_of, IsSilent, Writes};
 ghost use Rattle.quantum_blocks.specs.Fits.{AreInRange, AreFit};
 
 use crate::block::Block;
@@ -46,13 +47,14 @@ fn fit_each(blocks: &mut [Block], world: &World, counts: &[u32]) -> Result<(), N
     Ok(())
 }
 
-/// Silences the lanes of each end. What is silent stays so.
+/// Silences the lanes of each end. What is silent stays so, and other ends keep their blocks.
 pub fn hush(blocks: &mut [Block], muted: &[End])
     requires { (i : ℕ) (d : an_end) → i < length muted.now → slot_of (slice_index_or muted.now i d) < length blocks.old }
     ensures lanes { lanes_of blocks.new ≡ lanes_of blocks.old }
     ensures frames { frames_of blocks.new ≡ frames_of blocks.old }
     ensures silent { (i : ℕ) (d : an_end) → i < length muted.now → IsSilent blocks.new (slice_index_or muted.now i d) }
     ensures kept { (d : an_end) → IsSilent blocks.old d → IsSilent blocks.new d }
+    ensures others { (d : an_end) → (IsIn d muted.now → ⊥) → block_of blocks.new d ≡ block_of blocks.old d }
 {
     for end in muted {
         hush_end(blocks, *end);

@@ -1,5 +1,5 @@
 -- The levels of the parameters are their intrinsic values.
-use Rattle.std.proofs.Common.{ℕ, pos, ◌≡◌, ◌<◌, ◌≤◌, ◌+◌, ◌⊎◌, length, List, [], ◌∷◌, map, true, false, Some, inl, inr, refl, sym, ◌∙◌, ap, arith, subst}
+use Rattle.std.proofs.Common.{ℕ, ℤ, pos, ◌≡◌, ◌<◌, ◌≤◌, ◌+◌, ◌⊎◌, length, List, [], ◌∷◌, map, true, false, Some, inl, inr, refl, sym, ◌∙◌, ap, arith, subst}
 use Rattle.std.specs.Prelude.{if◌then◌else◌, ◌==◌, ◌&&◌}
 use Rattle.std.specs.Option.{option_map_or}
 use Rattle.std.proofs.lemmas.List.{get_or_past}
@@ -19,7 +19,7 @@ use Rattle.meaning.specs.World.{sounding, kind_of, param_id, find_param, intrins
 use Rattle.meaning.specs.Validity.{IsValid, param_ids}
 use Rattle.meaning.proofs.Automating.{found_param}
 use Rattle.meaning.proofs.Sounding.{intrinsic_sounding, k_rate_sounding}
-use Rattle.automation.specs.Levels.{LevelView, HasRoom, IsLevelOf, AreLevels, level_at, level_of, no_level, taken_at}
+use Rattle.automation.specs.Levels.{LevelView, HasRoom, IsLevelOf, AreLevels, StaysAt, level_at, level_of, no_level, taken_at}
 use Rattle.automation.specs.Ready.{AreOfNodes, AutomationView, IsHeld}
 use Rattle.quantum_render.proofs.LevelLaws.{taken_at as taken_in}
 
@@ -106,3 +106,13 @@ module _ (w : World) (valid : IsValid w) (first : ℕ) (levels : List LevelView)
       ∙ ap (λ o. option_map_or (λ (q : Param). value_at q.line.base q.line.events (first + taken_in (sounding w) id m)) o (pos 0)) is_found
       ∙ ap (λ k. value_at p.line.base p.line.events (first + k)) (ap (λ b. if b then 0 else m) (rate_is ∙ ap is_k own.rate) ∙ sym (taken_by p.rate m))
       ∙ sym (own.values m low)
+
+-- a level that stays is the intrinsic value of its parameter
+pub level_stays : (w : World) (id : ParamId) (p : Param) → find_param w.params.items id ≡ Some p → (from until : ℕ) (value : ℤ) → StaysAt (quantum_of w.spec) from until p value
+    → (first m : ℕ) → from ≤ first → first + quantum_of w.spec ≤ until → m < quantum_of w.spec → intrinsic_value (sounding w) id (first + taken_in (sounding w) id m) ≡ value
+level_stays w id p is from until value stays first m low next now =
+    let rate : is_k_rate (sounding w) id ≡ is_k p.rate = k_rate_sounding w id ∙ ap (λ o. option_map_or (λ (q : Param). is_k q.rate) o false) is in
+    intrinsic_sounding w id (first + taken_in (sounding w) id m)
+    ∙ ap (λ o. option_map_or (λ (q : Param). value_at q.line.base q.line.events (first + taken_in (sounding w) id m)) o (pos 0)) is
+    ∙ ap (λ k. value_at p.line.base p.line.events (first + k)) (ap (λ b. if b then 0 else m) rate ∙ sym (taken_by p.rate m))
+    ∙ stays first m low next now

@@ -1,5 +1,6 @@
 mod Automated
 pub mod Idling
+pub mod Still
 pub mod InputLaws
 pub mod LevelLaws
 pub mod Ports

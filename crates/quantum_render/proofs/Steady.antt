@@ -1,5 +1,5 @@
 -- Counts that hold from quantum to quantum.
-use Rattle.std.proofs.Common.{ℕ, zero, suc, ◌≡◌, ◌+◌, ◌*◌, ◌<◌, ◌≤◌, length, List, [], slice_index_or, inl, inr, sym, ◌∙◌, subst, arith}
+use Rattle.std.proofs.Common.{ℕ, zero, suc, ◌≡◌, ◌+◌, ◌*◌, ◌<◌, ◌≤◌, length, List, [], slice_index_or, inl, inr, sym, ◌∙◌, subst, arith, false}
 use Rattle.wa_base.specs.Contexts.{quantum_of}
 use Rattle.wa_base.specs.declared.graph_names.End.{End}
 use Rattle.law_base.specs.Members.{IsIn}
@@ -7,7 +7,7 @@ use Rattle.node_table.specs.declared.rows.Channels.{Channels}
 use Rattle.node_table.specs.declared.rows.Channels.TheVariants.{Always, OfInput, OfBuffer}
 use Rattle.node_table.specs.Kinds.{row}
 use Rattle.conn_graph.specs.declared.edges.Edge.{Edge}
-use Rattle.conn_graph.specs.Ends.{ends}
+use Rattle.conn_graph.specs.Ends.{ends, muted}
 use Rattle.conn_graph.specs.Graph.{Connections}
 use Rattle.conn_graph.specs.Orders.{IsLegalOrder}
 use Rattle.conn_graph.proofs.OrderLaws.{legal_order_is}
@@ -33,6 +33,12 @@ pub order_there : (g : Connections) (order : List End) → IsLegalOrder g order 
 order_there g order legal i l =
     let ordered = (legal_order_is g order).0 legal in
     ((ordered.all (slice_index_or order i no_end)).0 (IsIn-get_or order i no_end l)).0
+
+-- and is not muted
+pub order_unmuted : (g : Connections) (order : List End) → IsLegalOrder g order → (i : ℕ) → i < length order → muted g (slice_index_or order i no_end) ≡ false
+order_unmuted g order legal i l =
+    let ordered = (legal_order_is g order).0 legal in
+    ((ordered.all (slice_index_or order i no_end)).0 (IsIn-get_or order i no_end l)).1
 
 -- a steady end has the channels that its kind asks for in every quantum
 pub steady_counted : (bank : DelayBank) (w : World) (first : ℕ) (counts : List ℕ) (d : End) → IsSteady w counts d → AsCounted bank w first counts d

@@ -6,3 +6,4 @@ pub mod Plans
 pub mod Stands
 pub mod Listening
 pub mod Idle
+pub mod Ahead

@@ -289,6 +289,7 @@ fn take_level(block: &mut Block, level: &Level)
 {
     match level.values() {
         Values::Steady(value) => block.hold(value),
+        Values::Rising(ramp) => block.rise(&ramp),
         Values::Moving(values) => block.copy_moving(values, 1),
     }
 }

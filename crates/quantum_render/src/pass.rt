@@ -5,12 +5,12 @@ ghost use Rattle.law_base.specs.Members.{IsIn};
 ghost use Rattle.conn_graph.specs.Ends.{ends};
 ghost use Rattle.meaning.specs.declared.world.World.{World as a_world};
 ghost use Rattle.meaning.specs.Values.{value};
-ghost use Rattle.quantum_blocks.specs.Blocks.{drafts_of, IsSilent};
+ghost use Rattle.quantum_blocks.specs.Blocks.{drafts_of};
 ghost use Rattle.quantum_blocks.specs.Fits.{AreFit};
 ghost use Rattle.quantum_render.specs.Sites.{IsQuantum};
 ghost use Rattle.quantum_render.specs.Plans.{IsPlan, AreCycles, AreCounted};
 ghost use Rattle.quantum_render.specs.Listening.{IsTimely, IsMemory, HasRooms};
-ghost use Rattle.quantum_render.specs.Idle.{IsMarked, AreIdle};
+ghost use Rattle.quantum_render.specs.Idle.{AreIdle, KeepBlocks};
 
 use crate::bench::Bench;
 use crate::memory::Memory;
@@ -39,7 +39,7 @@ pub(crate) fn render_quantum<'a>(
     ensures frames { bench.new.frames ≡ bench.old.frames }
     ensures quanta { (memory.new.causal.quantum ≡ memory.old.causal.quantum) × (memory.new.delays.quantum ≡ memory.old.delays.quantum) }
     ensures fit { AreFit quantum.now.world.now quantum.now.counts.now blocks.new }
-    ensures silent { (d : an_end) → IsIn d (ends quantum.now.world.now.graph.value) → IsMarked quantum.now.idle.now d → IsSilent blocks.new d }
+    ensures kept { KeepBlocks quantum.now.world.now quantum.now.idle.now blocks.old blocks.new }
     ensures values { (tape : List a_world) → quantum.now.first ≡ quantum_of quantum.now.world.now.spec * length tape → AreCounted (quantum_of quantum.now.world.now.spec) quantum.now.world.now quantum.now.counts.now tape → IsTimely quantum.now.world.now → IsMemory memory.old quantum.now.world.now tape quantum.now.first → (m : ℕ) (d : an_end) → m < quantum_of quantum.now.world.now.spec → IsIn d (ends quantum.now.world.now.graph.value) →
         drafts_of blocks.new quantum.now.counts.now m d ≡ value (quantum_of quantum.now.world.now.spec) (tape ++ quantum.now.world.now ∷ []) (quantum_of quantum.now.world.now.spec * length tape + m) d }
     ensures memory { (tape : List a_world) → quantum.now.first ≡ quantum_of quantum.now.world.now.spec * length tape → AreCounted (quantum_of quantum.now.world.now.spec) quantum.now.world.now quantum.now.counts.now tape → IsTimely quantum.now.world.now → IsMemory memory.old quantum.now.world.now tape quantum.now.first →

@@ -266,6 +266,7 @@ impl Renderer {
         requires valid { IsValid world.now }
         requires spec { world.now.spec ≡ self.old.spec }
         requires settled { IsSettled self.old world.now }
+        requires held { HoldsLevels self.old world.now }
         requires rests { Rests self.old world.now }
         requires first { first ≡ quantum_of self.old.spec * self.old.quanta }
         requires time { first ≤ 2 ^ 62 }
@@ -287,7 +288,7 @@ impl Renderer {
         };
         let counts = self.counts.as_slice();
         let blocks = self.blocks.as_slice();
-        self.rest.look(self.plan.order(), counts, blocks, &census);
+        self.rest.look(self.plan.order(), counts, blocks, &self.automation, &census);
     }
 
     // Whether each end whose channels hang on the time has in the next quantum as many as in the last one.

@@ -1,5 +1,5 @@
 -- A renderer stays settled in a world through what a quantum changes.
-use Rattle.std.proofs.Common.{ℕ, zero, suc, ◌≡◌, ◌+◌, ◌<◌, ◌*◌, List, [], ◌∷◌, length, map, slice_index_or, Bool, true, false, cond, Option, Some, None, inl, inr, refl, sym, ◌∙◌, ap, arith, subst}
+use Rattle.std.proofs.Common.{ℕ, ℤ, zero, suc, ◌≡◌, ◌+◌, ◌<◌, ◌*◌, List, [], ◌∷◌, length, map, slice_index_or, Bool, true, false, cond, Option, Some, None, inl, inr, refl, sym, ◌∙◌, ap, arith, subst}
 use Rattle.std.specs.Prelude.{◌⊎◌, option_map, option_and_then, slice_get, nat_lt, not, ◌==◌, if◌then◌else◌}
 use Rattle.std.specs.List.{position, position_or_len}
 use Rattle.std.specs.Option.{option_map_or}
@@ -21,8 +21,11 @@ use Rattle.node_table.specs.declared.kinds.Kind.TheVariants.{Destination, Consta
 use Rattle.sched_source.specs.Schedule.{plays_at}
 use Rattle.meaning.specs.Plays.{rescheduled}
 use Rattle.meaning.specs.declared.scheds.Play.{Play}
-use Rattle.meaning.specs.World.{plain, kind_of, find_play, sounds_at}
-use Rattle.quantum_render.specs.Idle.{IsQuiet}
+use Rattle.meaning.specs.World.{plain, kind_of, find_play, sounds_at, param_id, intrinsic_value, is_k_rate}
+use Rattle.quantum_blocks.specs.Blocks.{BlockView}
+use Rattle.quantum_render.specs.Idle.{HasLevel, IsQuiet, IsStill, IsUnheard}
+use Rattle.wa_base.specs.declared.graph_names.ParamName.TheVariants as name
+use Rattle.meaning.proofs.Sounding.{slots_unheard}
 use Rattle.meaning.specs.declared.automation.ParamEdit.{ParamEdit}
 use Rattle.meaning.specs.declared.sources.SourceEdit.{SourceEdit}
 use Rattle.meaning.specs.declared.buffers.BufferEdit.{BufferEdit}
@@ -118,13 +121,21 @@ settled_like r w other is = record {
   steady = all_steady w other r.counts r.order r.muted r.timed is.steady;
 }
 
--- ---- idle ends hang on nodes, connections and sources alone
+-- ---- idle ends hang on nodes, connections, sources and timelines alone
 
-module _ (w other : World) (sounds : (n frame : ℕ) → sounds_at w n frame ≡ false → sounds_at (like w other) n frame ≡ false) where
+-- when sources sound, and which levels stay, is the same in another world
+record IsAlike (w other : World) : Type 0 where
+  sounds : (n frame : ℕ) → sounds_at (like w other) n frame ≡ sounds_at w n frame
+  levels : (id : ParamId) (from until : ℕ) (value : ℤ) → HasLevel w id from until value → HasLevel (like w other) id from until value
+
+module _ (w other : World) (alike : IsAlike w other) where
+  unheard_like : (n from until : ℕ) → IsUnheard w n from until → IsUnheard (like w other) n from until
+  unheard_like n from until is frame low high = alike.sounds n frame ∙ is frame low high
+
   quiet_like : (counts : List ℕ) (from until : ℕ) (e : End) (kind : Kind) → IsQuiet w counts from until e kind → IsQuiet (like w other) counts from until e kind
   quiet_like counts from until e Destination is = tt
-  quiet_like counts from until e (Constant offset) is = λ frame low high. sounds e.node.0 frame (is frame low high)
-  quiet_like counts from until e (Buffer rate) is = ((λ frame low high. sounds e.node.0 frame (is.0 frame low high)), is.1)
+  quiet_like counts from until e (Constant offset) is = unheard_like e.node.0 from until is
+  quiet_like counts from until e (Buffer rate) is = (unheard_like e.node.0 from until is.0, is.1)
   quiet_like counts from until e (Gain gain) is = tt
   quiet_like counts from until e (Delay longest time capacity) is = absurd is
   quiet_like counts from until e (Splitter ports) is = tt
@@ -132,10 +143,46 @@ module _ (w other : World) (sounds : (n frame : ℕ) → sounds_at w n frame ≡
   quiet_like counts from until e (Shaper curve was) is = absurd is
   quiet_like counts from until e (Causal equation) is = absurd is
 
+  still_like : (counts : List ℕ) (from until : ℕ) (marks : List Bool) (blocks : List BlockView) (e : End) (kind : Kind) → IsStill w counts from until marks blocks e kind → IsStill (like w other) counts from until marks blocks e kind
+  still_like counts from until marks blocks e Destination is = absurd is
+  still_like counts from until marks blocks e (Constant offset) is = record {
+    value = is.value;
+    fits = is.fits;
+    sounds = λ frame low high. alike.sounds e.node.0 frame ∙ is.sounds frame low high;
+    alone = is.alone;
+    level = alike.levels (param_id e.node.0 name.Offset) from until is.value is.level;
+    held = is.held;
+  }
+  still_like counts from until marks blocks e (Buffer rate) is = absurd is
+  still_like counts from until marks blocks e (Gain gain) is = record {
+    gain = is.gain;
+    fits = is.fits;
+    edge = is.edge;
+    only = is.only;
+    leads = is.leads;
+    marked = is.marked;
+    count = is.count;
+    level = alike.levels (param_id e.node.0 name.Gain) from until is.gain is.level;
+    scaled = is.scaled;
+    fit = is.fit;
+  }
+  still_like counts from until marks blocks e (Delay longest time capacity) is = absurd is
+  still_like counts from until marks blocks e (Splitter ports) is = absurd is
+  still_like counts from until marks blocks e (Merger ports) is = absurd is
+  still_like counts from until marks blocks e (Shaper curve was) is = absurd is
+  still_like counts from until marks blocks e (Causal equation) is = absurd is
+
   rests_like : (r : RendererView) → Rests r w → Rests r (like w other)
   rests_like r rests known e in_e marked =
       let is = rests known e in_e marked in
-      record { quiet = quiet_like r.counts (quantum_of r.spec * r.quanta) r.rest.until e (kind_of w e.node.0) is.quiet; heard = is.heard; silent = is.silent }
+      let from : ℕ = quantum_of r.spec * r.quanta in
+      record {
+        unmuted = is.unmuted;
+        why = elim is.why [
+          | inl silent ↦ inl (record { quiet = quiet_like r.counts from r.rest.until e (kind_of w e.node.0) silent.quiet; heard = silent.heard; silent = silent.silent })
+          | inr still ↦ inr (still_like r.counts from r.rest.until r.rest.marks r.blocks e (kind_of w e.node.0) still)
+        ];
+      }
 
 -- ---- a mark is not heard
 
@@ -175,36 +222,44 @@ module _ (next node : ℕ) where
       by_place None = refl
       by_place (Some i) = slice_get-map (marked next) plays i
 
-marked_quiet : (w : World) (next n frame : ℕ) → sounds_at w n frame ≡ false → sounds_at (ended_marked next w) n frame ≡ false
-marked_quiet w next n frame none = ap (λ (o : Option Play). option_map_or (λ (p : Play). plays_at p.sched frame) o false) (found_marked next n w.scheds.items) ∙ by_play (find_play w.scheds.items n) ∙ none
+marked_sounds : (w : World) (next n frame : ℕ) → sounds_at (ended_marked next w) n frame ≡ sounds_at w n frame
+marked_sounds w next n frame = ap (λ (o : Option Play). option_map_or (λ (p : Play). plays_at p.sched frame) o false) (found_marked next n w.scheds.items) ∙ by_play (find_play w.scheds.items n)
   where
     by_play : (o : Option Play) → option_map_or (λ (p : Play). plays_at p.sched frame) (option_map (marked next) o) false ≡ option_map_or (λ (p : Play). plays_at p.sched frame) o false
     by_play None = refl
     by_play (Some p) = same_sound next frame p
 
-standing_like : (s : Standing) (r : RendererView) (w other : World) → (HoldsLevels r w → HoldsLevels r (like w other)) → ((n frame : ℕ) → sounds_at w n frame ≡ false → sounds_at (like w other) n frame ≡ false) → IsStanding s r w → IsStanding s r (like w other)
-standing_like Changed r w other levels sounds is = tt
-standing_like Unchanged r w other levels sounds is = tt
-standing_like Edited r w other levels sounds is = settled_like r w other is
-standing_like Settled r w other levels sounds is = (settled_like r w other is.0, levels is.1, rests_like w other sounds r is.2)
+standing_like : (s : Standing) (r : RendererView) (w other : World) → (HoldsLevels r w → HoldsLevels r (like w other)) → IsAlike w other → IsStanding s r w → IsStanding s r (like w other)
+standing_like Changed r w other levels alike is = tt
+standing_like Unchanged r w other levels alike is = tt
+standing_like Edited r w other levels alike is = settled_like r w other is
+standing_like Settled r w other levels alike is = (settled_like r w other is.0, levels is.1, rests_like w other alike r is.2)
+
+-- the current values of parameters are not heard
+slots_alike : (w : World) (first : ℕ) → IsAlike w (slots_set first w)
+slots_alike w first = record {
+  sounds = λ n frame. refl;
+  levels = λ id from until value is begin m low next now.
+      subst (λ (x : World). intrinsic_value x id (begin + (if is_k_rate x id then 0 else m)) ≡ value) (sym (slots_unheard w first)) (is begin m low next now);
+}
 
 -- in a world and in what a meaning sees of it
 pub standing_raw : (s : Standing) (r : RendererView) (w : World) → IsStanding s r (plain w) → IsStanding s r w
-standing_raw s r w is = standing_like s r (plain w) w (λ held. held) (λ n frame none. none) is
+standing_raw s r w is = standing_like s r (plain w) w (λ held. held) (record { sounds = λ n frame. refl; levels = λ id from until value is. is }) is
 
 pub standing_plain : (s : Standing) (r : RendererView) (w : World) → IsStanding s r w → IsStanding s r (plain w)
-standing_plain s r w is = standing_like s r w (plain w) (λ held. held) (λ n frame none. none) is
+standing_plain s r w is = standing_like s r w (plain w) (λ held. held) (record { sounds = λ n frame. refl; levels = λ id from until value is. is }) is
 
 -- after what a quantum changes
 pub standing_quiet : (s : Standing) (r : RendererView) (w : World) (m : Message) → ((first : ℕ) × (m ≡ message.Slots first)) ⊎ ((next : ℕ) × (m ≡ message.Ended next)) → IsStanding s r w → IsStanding s r (after_message w m)
 standing_quiet s r w m (inl slots) is =
-    subst (λ (x : Message). IsStanding s r (after_message w x)) (sym slots.1) (standing_like s r w (slots_set slots.0 w) (held_moved w.params.items (quantum_of r.spec * r.quanta) slots.0 r.automation) (λ n frame none. none) is)
-standing_quiet s r w m (inr ended) is = subst (λ (x : Message). IsStanding s r (after_message w x)) (sym ended.1) (standing_like s r w (ended_marked ended.0 w) (λ held. held) (marked_quiet w ended.0) is)
+    subst (λ (x : Message). IsStanding s r (after_message w x)) (sym slots.1) (standing_like s r w (slots_set slots.0 w) (held_moved w.params.items (quantum_of r.spec * r.quanta) slots.0 r.automation) (slots_alike w slots.0) is)
+standing_quiet s r w m (inr ended) is = subst (λ (x : Message). IsStanding s r (after_message w x)) (sym ended.1) (standing_like s r w (ended_marked ended.0 w) (λ held. held) (record { sounds = marked_sounds w ended.0; levels = λ id from until value is. is }) is)
 
 -- after an edit of buffers
 pub standing_apart : (s : Standing) (r : RendererView) (w : World) (now : ℕ) (e : Edit) (of_buffers : BufferEdit) → e ≡ edit.Buffers of_buffers → IsStanding s r w → IsStanding s r (edited w now e)
 standing_apart s r w now e of_buffers named is =
-    subst (λ (x : Edit). IsStanding s r (edited w now x)) (sym named) (standing_like s r w (with_store w (buffers_edited w.store of_buffers)) (λ held. held) (λ n frame none. none) is)
+    subst (λ (x : Edit). IsStanding s r (edited w now x)) (sym named) (standing_like s r w (with_store w (buffers_edited w.store of_buffers)) (λ held. held) (record { sounds = λ n frame. refl; levels = λ id from until value is. is }) is)
 
 -- and of a source or a parameter
 abbrev pub IsOfSourceOrParam : Edit → Type 0

@@ -3,7 +3,7 @@ ghost use Rattle.param_cursor.specs.Cursors.{place_at};
 
 use crate::random::{Random, timeline};
 use crate::search::value_by_search;
-use param_cursor::Cursor;
+use param_cursor::{Cursor, Drawn};
 use param_events::Timeline;
 use std::alloc::Global;
 use std::marker::Brand;
@@ -21,7 +21,7 @@ fn is_as_found<L: Ledger>(out: &[Fix], first: u64, line: &Timeline, steps: &mut 
     is_same
 }
 
-// Whether a block, of one value or drawn, has the values that a search finds.
+// Whether a block, of one value, on a ramp or drawn, has the values that a search finds.
 fn is_drawn_as_found<L: Ledger>(
     cursor: &mut Cursor,
     out: &mut [Fix],
@@ -35,8 +35,10 @@ fn is_drawn_as_found<L: Ledger>(
     ensures length { length out.new ≡ length out.old }
     ensures stands { cursor.new ≡ place_at (first + length out.new) line.now.events }
 {
-    if let Some(stay) = cursor.draw(out, first, line, steps) {
-        out.fill(stay.value);
+    match cursor.draw(out, first, line, steps) {
+        Drawn::Stays(stay) => out.fill(stay.value),
+        Drawn::Rises(ramp) => ramp.write(out),
+        Drawn::Each => {}
     }
     is_as_found(out, first, line, steps)
 }

@@ -6,7 +6,7 @@ use Rattle.conn_graph.specs.Ends.{ends}
 use Rattle.meaning.proofs.Joined.{joined}
 use Rattle.filter_bank.specs.Banks.{heard_at, IsRestedIfThere}
 use Rattle.delay_bank.specs.Kept.{DelayView}
-use Rattle.quantum_blocks.specs.Blocks.{BlockView, slot, IsSilent, Writes}
+use Rattle.quantum_blocks.specs.Blocks.{BlockView, block_of, slot, IsSilent, Writes}
 use Rattle.quantum_blocks.specs.Connections.{into}
 use Rattle.quantum_blocks.specs.Fits.{AreFit}
 use Rattle.quantum_render.specs.declared.site.Quantum.{Quantum}
@@ -17,7 +17,7 @@ use Rattle.quantum_render.specs.declared.memory.Memory.{Memory}
 use Rattle.quantum_render.specs.Listening.{HasRooms}
 use Rattle.quantum_render.specs.Renders.{IsRendered}
 use Rattle.quantum_blocks.proofs.Orders.{no_end}
-use Rattle.quantum_render.proofs.Idling.{idle_later, idle_rendered, still_idle}
+use Rattle.quantum_render.proofs.Idling.{block_kept, idle_later, idle_rendered}
 use Rattle.quantum_render.proofs.Passing.{Passing, still_fit, passing_begins, next, passing_rendered, passing_ends, all_remembered, rested_rooms, mute_there}
 use Rattle.quantum_render.proofs.Ports.{some_frames}
 use Rattle.quantum_render.proofs.pass.render_quantum.Goals as goal
@@ -33,7 +33,12 @@ hush-requires c =
 pub loop-end-init : goal.loop-end-init
 loop-end-init c = record {
   frames = refl;
-  silent = λ d in_d marked. c.hush.ensures.kept d ((c.requires.idle d in_d marked).silent);
+  kept = λ d in_d marked.
+      let q : Quantum = c.args.quantum.now in
+      c.hush.ensures.others d (λ mute.
+      let no = (c.requires.idle d in_d marked).unmuted in
+      let on = (c.requires.plan.only d (subst (λ (ms : List End). IsIn d ms) c.muted.ensures mute)).1 in
+      absurd cc);
   passing =
       let q : Quantum = c.args.quantum.now in
       let valid = c.requires.quantum.valid in
@@ -90,9 +95,9 @@ module _ (c : Joined-not-is_marked) where
   stays : IsMarked q.idle.now x → IsRendered (site_in q x) c.loop-end.blocks c.loop-end.blocks c.loop-end.memory c.loop-end.memory
   stays marked =
       let until : ℕ = q.first + quantum_of q.world.now.spec in
-      idle_rendered (site_in q x) site c.loop-end.blocks c.loop-end.invariant.passing.fit q.idle.now until
-      (idle_later q.world.now q.counts.now q.first q.first until until (omega arith) (omega arith) q.idle.now c.args.blocks.now c.loop-end.blocks c.requires.idle c.loop-end.invariant.silent)
-      (omega arith) marked c.loop-end.memory c.loop-end.invariant.passing.rooms
+      idle_rendered q.world.now x (into q.world.now.graph.value x.node.0) q.counts.now q.levels.now q.first site c.loop-end.blocks c.loop-end.invariant.passing.fit q.idle.now
+      (idle_later q.world.now c.requires.quantum.valid q.counts.now q.first q.first until until (omega arith) (omega arith) q.idle.now c.args.blocks.now c.loop-end.blocks c.requires.idle c.loop-end.invariant.kept)
+      marked c.loop-end.memory c.loop-end.invariant.passing.rooms
 
   both : (memory : Memory) (blocks : List BlockView) (memory' : Memory) (blocks' : List BlockView) → memory ≡ memory' → blocks ≡ blocks'
       → Passing q.world.now c.args.plan.now.order (c.loop-end.end-index + 1) q.counts.now q.first c.args.memory.now memory' blocks' → Passing q.world.now c.args.plan.now.order (c.loop-end.end-index + 1) q.counts.now q.first c.args.memory.now memory blocks
@@ -106,14 +111,14 @@ loop-end-preserved c = record {
     | then-not-is_marked b ↦ ap (λ (x : BenchView). x.frames) b.bench-is ∙ b.render.ensures.frames ∙ c.loop-end.invariant.frames
     | else-not-is_marked b ↦ ap (λ (x : BenchView). x.frames) b.bench-is ∙ c.loop-end.invariant.frames
   ];
-  silent = elim c.if-not-is_marked.branch [
+  kept = elim c.if-not-is_marked.branch [
     | then-not-is_marked b ↦ λ d in_d marked.
         let here = b.site-site.ensures ∙ ap (λ (order : List End). site_in c.args.quantum.now (slice_index_or order c.loop-end.end-index no_end)) c.order-end-items.ensures in
         let writes = subst (λ (s : SiteView). Writes c.loop-end.blocks b.render.new.blocks s.end) here b.render.ensures.draws.writes in
-        subst (λ (bs : List BlockView). IsSilent bs d) (sym b.blocks-is)
-        (still_idle c.loop-end.blocks b.render.new.blocks c.args.quantum.now.idle.now (slice_index_or c.args.plan.now.order c.loop-end.end-index no_end) d writes (sym (mark c) ∙ b.if-not-is_marked.true) marked
-        (c.loop-end.invariant.silent d in_d marked))
-    | else-not-is_marked b ↦ λ d in_d marked. subst (λ (bs : List BlockView). IsSilent bs d) (sym b.blocks-is) (c.loop-end.invariant.silent d in_d marked)
+        ap (λ (bs : List BlockView). block_of bs d) b.blocks-is
+        ∙ block_kept c.loop-end.blocks b.render.new.blocks c.args.quantum.now.idle.now (slice_index_or c.args.plan.now.order c.loop-end.end-index no_end) d writes (sym (mark c) ∙ b.if-not-is_marked.true) marked
+        ∙ c.loop-end.invariant.kept d in_d marked
+    | else-not-is_marked b ↦ λ d in_d marked. ap (λ (bs : List BlockView). block_of bs d) b.blocks-is ∙ c.loop-end.invariant.kept d in_d marked
   ];
   passing = elim c.if-not-is_marked.branch [
     | then-not-is_marked b ↦
@@ -136,7 +141,7 @@ returns c =
       frames = c.loop-end.invariant.frames;
       quanta = (c.rest.ensures.quantum ∙ rooms.causal_quantum ∙ sym c.requires.rooms.causal_quantum, c.end_quantum.ensures.quantum ∙ rooms.delay_quantum ∙ sym c.requires.rooms.delay_quantum);
       fit = c.loop-end.invariant.passing.fit;
-      silent = c.loop-end.invariant.silent;
+      kept = c.loop-end.invariant.kept;
       values = passing_ends q.world.now valid c.args.plan.now.order c.loop-end.end-index q.counts.now q.first c.args.memory.now c.loop-end.memory c.loop-end.blocks c.loop-end.invariant.passing past;
       memory = λ tape begins counted timely ready. all_remembered q.world.now valid c.args.plan.now.order c.loop-end.end-index q.counts.now q.first c.args.memory.now c.loop-end.memory c.loop-end.blocks c.loop-end.invariant.passing past
           tape begins counted timely ready (record { causal = c.rest.new.self; delays = c.end_quantum.new.self })

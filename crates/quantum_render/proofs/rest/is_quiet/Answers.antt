@@ -16,24 +16,24 @@ effect w counts from until e kind (inr (inr (inr is))) = subst (IsQuiet w counts
 
 pub returns-then-is_unheard : goal.returns-then-is_unheard
 returns-then-is_unheard c one =
-    let w : World = c.args.census.now.world.now in
-    subst (IsQuiet w c.args.counts.now c.args.census.now.first c.args.until c.args.end) (sym (kind_is w c.args.end.node.0 c.kind.result.now c.requires.there c.kind.ensures.value ∙ c.in-Buffer.is))
+    let w : World = c.args.ahead.now.census.now.world.now in
+    subst (IsQuiet w c.args.ahead.now.counts.now c.args.ahead.now.census.now.first c.args.ahead.now.until c.args.end) (sym (kind_is w c.args.end.node.0 c.kind.result.now c.requires.there c.kind.ensures.value ∙ c.in-Buffer.is))
     (c.is_unheard-in-Buffer.ensures c.if-is_unheard.true, c.has_count.ensures one)
 
 pub returns-in-Destination-2 : goal.returns-in-Destination-2
 returns-in-Destination-2 c is =
-    let w : World = c.args.census.now.world.now in
-    subst (IsQuiet w c.args.counts.now c.args.census.now.first c.args.until c.args.end) (sym (kind_is w c.args.end.node.0 c.kind.result.now c.requires.there c.kind.ensures.value))
-    (effect w c.args.counts.now c.args.census.now.first c.args.until c.args.end c.kind.result.now c.in-Destination.is)
+    let w : World = c.args.ahead.now.census.now.world.now in
+    subst (IsQuiet w c.args.ahead.now.counts.now c.args.ahead.now.census.now.first c.args.ahead.now.until c.args.end) (sym (kind_is w c.args.end.node.0 c.kind.result.now c.requires.there c.kind.ensures.value))
+    (effect w c.args.ahead.now.counts.now c.args.ahead.now.census.now.first c.args.ahead.now.until c.args.end c.kind.result.now c.in-Destination.is)
 
 pub returns-in-Destination-3 : goal.returns-in-Destination-3
 returns-in-Destination-3 c is =
-    let w : World = c.args.census.now.world.now in
-    subst (IsQuiet w c.args.counts.now c.args.census.now.first c.args.until c.args.end) (sym (kind_is w c.args.end.node.0 c.kind.result.now c.requires.there c.kind.ensures.value))
-    (effect w c.args.counts.now c.args.census.now.first c.args.until c.args.end c.kind.result.now c.in-Destination.is)
+    let w : World = c.args.ahead.now.census.now.world.now in
+    subst (IsQuiet w c.args.ahead.now.counts.now c.args.ahead.now.census.now.first c.args.ahead.now.until c.args.end) (sym (kind_is w c.args.end.node.0 c.kind.result.now c.requires.there c.kind.ensures.value))
+    (effect w c.args.ahead.now.counts.now c.args.ahead.now.census.now.first c.args.ahead.now.until c.args.end c.kind.result.now c.in-Destination.is)
 
 pub returns-in-Destination-4 : goal.returns-in-Destination-4
 returns-in-Destination-4 c is =
-    let w : World = c.args.census.now.world.now in
-    subst (IsQuiet w c.args.counts.now c.args.census.now.first c.args.until c.args.end) (sym (kind_is w c.args.end.node.0 c.kind.result.now c.requires.there c.kind.ensures.value))
-    (effect w c.args.counts.now c.args.census.now.first c.args.until c.args.end c.kind.result.now c.in-Destination.is)
+    let w : World = c.args.ahead.now.census.now.world.now in
+    subst (IsQuiet w c.args.ahead.now.counts.now c.args.ahead.now.census.now.first c.args.ahead.now.until c.args.end) (sym (kind_is w c.args.end.node.0 c.kind.result.now c.requires.there c.kind.ensures.value))
+    (effect w c.args.ahead.now.counts.now c.args.ahead.now.census.now.first c.args.ahead.now.until c.args.end c.kind.result.now c.in-Destination.is)

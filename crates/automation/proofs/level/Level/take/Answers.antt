@@ -3,16 +3,9 @@ use Rattle.automation.proofs.Looks.{within_more}
 use Rattle.automation.proofs.level.Level.take.Goals as goal
 use Rattle.automation.proofs.level.Level.take.Goals.{in-A, in-K}
 
-pub returns-after-is_past-clause-cost : goal.returns-after-is_past-clause-cost
-returns-after-is_past-clause-cost g c =
+pub returns-clause-cost : goal.returns-clause-cost
+returns-clause-cost g c =
     let few : c.match-param.count ≤ c.args.frames = elim c.match-param.branch [ in-A w ↦ omega (arith, w.count-is, c.requires.room) | in-K w ↦ omega (arith, w.count-is, c.requires.quantum.low) ] in
-    let long : length c.draw.new.out ≤ c.args.frames = omega (arith, few, c.draw.auto.out, c.deref_mut.ensures.len) in
-    let more = within_more c.args.first (c.args.first + length c.draw.new.out) (c.args.first + c.args.frames) c.args.param.now.line.events (omega (arith, long)) in
-    omega (arith, c.draw.ensures.cost, more)
-
-pub returns-in-None-clause-cost : goal.returns-in-None-clause-cost
-returns-in-None-clause-cost g c =
-    let few : c.match-param.count ≤ c.args.frames = elim c.match-param.branch [ in-A w ↦ omega (arith, w.count-is, c.requires.room) | in-K w ↦ omega (arith, w.count-is, c.requires.quantum.low) ] in
-    let long : length c.draw.new.out ≤ c.args.frames = omega (arith, few, c.draw.auto.out, c.deref_mut.ensures.len) in
-    let more = within_more c.args.first (c.args.first + length c.draw.new.out) (c.args.first + c.args.frames) c.args.param.now.line.events (omega (arith, long)) in
-    omega (arith, c.draw.ensures.cost, more)
+    let long : length c.draw-drawn.new.out ≤ c.args.frames = omega (arith, few, c.draw-drawn.auto.out, c.deref_mut.ensures.len) in
+    let more = within_more c.args.first (c.args.first + length c.draw-drawn.new.out) (c.args.first + c.args.frames) c.args.param.now.line.events (omega (arith, long)) in
+    omega (arith, c.draw-drawn.ensures.cost, more)

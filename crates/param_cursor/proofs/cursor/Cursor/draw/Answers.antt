@@ -10,7 +10,7 @@ use Rattle.param_cursor.proofs.Draws.{drawn_joined}
 use Rattle.param_events.proofs.Order.{rising_times}
 use Rattle.param_cursor.proofs.Neighbours.{if_there, at_place, at_some, last_next}
 use Rattle.param_cursor.proofs.Counting.{StandsAt, place_is, place_within, stands_at, moved_by}
-use Rattle.param_cursor.proofs.Stays.{between_at, stands_on, last_sound}
+use Rattle.param_cursor.proofs.Stays.{between_at, stands_on, last_begun, last_sound}
 use Rattle.param_events.specs.Timeline.{IsSound}
 use Rattle.param_cursor.proofs.cursor.Cursor.draw.Goals as goal
 
@@ -62,6 +62,33 @@ returns-in-Some-clause-lasts g c past later from =
 
 pub returns-in-Some-clause-stands : goal.returns-in-Some-clause-stands
 returns-in-Some-clause-stands g c =
+    let events = c.args.line.now.events in
+    let place = c.self.inside.place in
+    let stands = stands_at c.args.first place events c.event_at-next.ensures.timeline.ordered (c.self.view_is ∙ c.requires.stands) in
+    let later = at_place place events (λ e. c.args.first + c.block_end-end.result ≤ time_of e) (subst (λ o. IfSome o (λ e. c.args.first + c.block_end-end.result ≤ time_of e)) c.event_at-next.ensures.value c.block_end-end.ensures.later) in
+    sym c.self.view_is
+    ∙ place_is (c.args.first + length c.args.out.now) place events c.event_at-next.ensures.timeline.ordered
+    (stands_on events place c.args.first (c.args.first + length c.args.out.now) stands (omega arith) (λ d l. let t = later d l in let whole : c.block_end-end.result ≡ length c.args.out.now = c.if-end-count.true in omega (arith, t, whole)))
+
+pub ramp_between-requires-clause-begun : goal.ramp_between-requires-clause-begun
+ramp_between-requires-clause-begun g c =
+    let events = c.args.line.now.events in
+    let place = c.self.inside.place in
+    let stands = stands_at c.args.first place events c.event_at-next.ensures.timeline.ordered (c.self.view_is ∙ c.requires.stands) in
+    subst (λ o. IfSome o (λ e. time_of e ≤ c.args.first)) (sym c.event_before-here.ensures.value) (last_begun place c.args.first events stands)
+
+pub returns-in-Some-ramp_between-clause-rises : goal.returns-in-Some-ramp_between-clause-rises
+returns-in-Some-ramp_between-clause-rises g c m low =
+    let events = c.args.line.now.events in
+    let place = c.self.inside.place in
+    let stands = stands_at c.args.first place events c.event_at-next.ensures.timeline.ordered (c.self.view_is ∙ c.requires.stands) in
+    let later = at_place place events (λ e. c.args.first + c.block_end-end.result ≤ time_of e) (subst (λ o. IfSome o (λ e. c.args.first + c.block_end-end.result ≤ time_of e)) c.event_at-next.ensures.value c.block_end-end.ensures.later) in
+    let whole : c.block_end-end.result ≡ length c.args.out.now = c.if-end-count.true in
+    let rises = simp (c.event_before-here.ensures.value, c.event_at-next.ensures.value) at c.in-Some-ramp_between.ensures.value in
+    between_at c.args.line.now.base events place c.args.first (c.args.first + m) c.event_at-next.ensures.timeline stands (omega arith) (λ d l. let t = later d l in omega (arith, t, whole, low)) ∙ rises c.args.line.now.base m
+
+pub returns-in-Some-ramp_between-clause-stands : goal.returns-in-Some-ramp_between-clause-stands
+returns-in-Some-ramp_between-clause-stands g c =
     let events = c.args.line.now.events in
     let place = c.self.inside.place in
     let stands = stands_at c.args.first place events c.event_at-next.ensures.timeline.ordered (c.self.view_is ∙ c.requires.stands) in

@@ -20,7 +20,7 @@ use Rattle.automation.specs.Ready.{AreOfNodes, IsHeld}
 use Rattle.automation.specs.Levels.{LevelView, AreLevels}
 use Rattle.quantum_render.proofs.Automated.{of_nodes, held_later}
 use Rattle.quantum_render.specs.Listening.{IsMemory, HasRooms}
-use Rattle.quantum_render.specs.Idle.{AreIdle}
+use Rattle.quantum_render.specs.Idle.{AreIdle, KeepBlocks}
 use Rattle.quantum_render.proofs.Idling.{idle_now, idle_after}
 use Rattle.quantum_render.proofs.Kept.{whole, timely}
 use Rattle.quantum_render.proofs.Ports.{some_frames}
@@ -170,7 +170,7 @@ render_quantum-requires-clause-idle g c =
     subst (λ (ms : List Bool). AreIdle w c.as_slice-2.result.now c.args.first (c.args.first + quantum_of w.spec) ms c.as_mut_slice-blocks.result.now) (sym marks)
     (subst (λ ns. AreIdle w ns c.args.first (c.args.first + quantum_of w.spec) (if nat_le (c.args.first + quantum_of r.spec) r.rest.until then r.rest.marks else []) c.as_mut_slice-blocks.result.now) (sym counts)
     (subst (λ (bs : List BlockView). AreIdle w r.counts c.args.first (c.args.first + quantum_of w.spec) (if nat_le (c.args.first + quantum_of r.spec) r.rest.until then r.rest.marks else []) bs) (sym blocks)
-    (idle_now r w (sym c.requires.spec) c.requires.grown.rests c.args.first c.requires.first)))
+    (idle_now r w c.requires.valid (sym c.requires.spec) c.requires.grown.rests c.args.first c.requires.first)))
 
 pub returns-clause-rests : goal.returns-clause-rests
 returns-clause-rests g c known =
@@ -183,4 +183,4 @@ returns-clause-rests g c known =
     subst (λ (bs : List BlockView). AreIdle w c.self.inside.counts.items (quantum_of c.self.inside.spec * (c.self.inside.quanta + 1)) c.self.inside.rest.until c.self.inside.rest.marks bs)
     (sym (rewritten _ c.render_quantum.new.blocks _ (c.render_quantum.auto.blocks ∙ c.as_mut_slice-blocks.ensures.len)))
     (subst (λ (x : RendererView). AreIdle w x.counts (quantum_of x.spec * (x.quanta + 1)) x.rest.until x.rest.marks c.render_quantum.new.blocks) (sym c.self.view_is)
-    (idle_after r w (sym c.requires.spec) c.requires.grown.rests c.args.first c.requires.first c.marks.result.now marks c.render_quantum.new.blocks c.render_quantum.ensures.silent later))
+    (idle_after r w c.requires.valid (sym c.requires.spec) c.requires.grown.rests c.args.first c.requires.first c.marks.result.now marks c.render_quantum.new.blocks (subst (λ (bs : List BlockView). KeepBlocks w c.marks.result.now bs c.render_quantum.new.blocks) (c.as_mut_slice-blocks.ensures.value ∙ ap (λ (x : RendererView). x.blocks) c.self.view_is) c.render_quantum.ensures.kept) later))

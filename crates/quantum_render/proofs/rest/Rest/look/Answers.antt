@@ -1,15 +1,24 @@
-use Rattle.std.proofs.Common.{ℕ, ◌+◌, ◌*◌, List, Bool, slice_index_or, sym, ◌∙◌, subst}
+use Rattle.std.proofs.Common.{ℕ, ◌+◌, ◌*◌, List, Bool, slice_index_or, refl, sym, ◌∙◌, subst}
 use Rattle.wa_base.specs.declared.graph_names.End.{End}
 use Rattle.meaning.specs.declared.world.World.{World}
 use Rattle.quantum_blocks.proofs.Orders.{no_end}
 use Rattle.quantum_render.specs.Idle.{AreIdle}
 use Rattle.quantum_render.proofs.Idling.{one_more_idle}
-use Rattle.quantum_render.proofs.Steady.{order_there}
+use Rattle.quantum_render.proofs.Steady.{order_there, order_unmuted}
 use Rattle.quantum_render.proofs.rest.Rest.look.Goals as goal
 use Rattle.quantum_render.proofs.rest.Rest.look.Goals.{then-is_idle, else-is_idle}
 
 pub is_idle-requires-clause-there : goal.is_idle-requires-clause-there
 is_idle-requires-clause-there c = order_there c.args.census.now.world.now.graph.value c.args.order.now c.requires.plan.1.legal c.loop-end.end-index c.loop-end-test.true
+
+pub is_idle-requires-clause-unmuted : goal.is_idle-requires-clause-unmuted
+is_idle-requires-clause-unmuted c = order_unmuted c.args.census.now.world.now.graph.value c.args.order.now c.requires.plan.1.legal c.loop-end.end-index c.loop-end-test.true
+
+pub loop-end-init : goal.loop-end-init
+loop-end-init c = record {
+  count = refl;
+  idle = λ e in_e marked. absurd (c.unmark.ensures.none e marked);
+}
 
 pub loop-end-preserved : goal.loop-end-preserved
 loop-end-preserved c = record {

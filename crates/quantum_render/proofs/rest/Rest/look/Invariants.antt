@@ -6,5 +6,5 @@ use Rattle.quantum_render.proofs.rest.Rest.look.Given as goal
 abbrev pub invariant-loop-end : goal.invariant-loop-end
 invariant-loop-end l = record {
   count : length l.marks ≡ length l.initial.marks;
-  idle : AreIdle l.census.world.now l.counts l.census.first l.until l.marks l.blocks;
+  idle : AreIdle l.fn.census.world.now l.counts l.fn.census.first l.ahead.until l.marks l.blocks;
 }
